@@ -1,0 +1,44 @@
+// Sheets made by setting fields.
+
+ghost use Prim.Native.Nat.{_+_, _≤_};
+
+fn low(value: u64) -> u8 {
+    (value % 256) as u8
+}
+
+pub fn put8(sheet: [u8; 278], at: usize, value: u64) -> [u8; 278]
+    requires { ⌜ at + 1 ≤ 278 ⌝ }
+{
+    let mut s = sheet;
+    s[at] = low(value);
+    s
+}
+
+pub fn put16(sheet: [u8; 278], at: usize, value: u64) -> [u8; 278]
+    requires { ⌜ at + 2 ≤ 278 ⌝ }
+{
+    let mut s = sheet;
+    s[at] = low(value);
+    s[at + 1] = low(value / 256);
+    s
+}
+
+pub fn put32(sheet: [u8; 278], at: usize, value: u64) -> [u8; 278]
+    requires { ⌜ at + 4 ≤ 278 ⌝ }
+{
+    let mut s = sheet;
+    s[at] = low(value);
+    s[at + 1] = low(value / 256);
+    s[at + 2] = low(value / 65_536);
+    s[at + 3] = low(value / 16_777_216);
+    s
+}
+
+// T 300, r 40,000, every record zero.
+pub fn plain() -> [u8; 278] {
+    let mut s = [0u8; 278];
+    s[0] = b'R';
+    s[1] = b'C';
+    s[2] = b'S';
+    put32(put16(put16(s, 3, 1), 5, 300), 7, 40_000)
+}

@@ -1,0 +1,91 @@
+-- The check's two loops follow `checked`: one law for a turn of each loop, and one for each way out. Assumes nothing.
+use Prim.Native.Nat.{ℕ, _+_, _≤_, _<_}
+use mathlib.Core.Path.{_≡_, refl, sym, ap, _∙_}
+use mathlib.Core.List.{List}
+use mathlib.Core.Bool.{true, false}
+use mathlib.Core.Logic.{_↔_}
+use native.Mathlib.Omega.{arith}
+use lib.ListN.{length, getD}
+use Rattle.sheet.specs.Layout.{sheetLength}
+use Rattle.sheet.specs.Sheet.{OptionRecord, sheetOf}
+use Rattle.sheet.specs.Parsed.{termsOf, overhaulsOf, parsed}
+use Rattle.sheet.specs.declared.Overhauls.{Overhauls}
+use Rattle.sheet.specs.declared.Terms.{Terms}
+use Rattle.sheet.specs.declared.Sheet.{Sheet}
+use Rattle.sheet.proofs.ParsedLaws.{getD-options}
+use Rattle.checking.specs.Answer.{accepted, refused, answered, _unless_else_, _orElse_, firstBelow}
+use Rattle.checking.specs.Refusals.{overhaulOk, overhaulAnswer, headerNumber, fieldsNumber, optionAnswer, checked}
+use Rattle.checking.specs.Passes.{Passes}
+use Rattle.checking.specs.declared.Answer.{Answer}
+use Rattle.checking.proofs.AnswerLaws.{first-suc, first-found, answered-some, orElse-stop}
+use Rattle.checking.proofs.PassesLaws.{header-iff, checked-iff}
+
+-- what is shown of an answer
+pub met : (s : List ℕ) (a : Answer) → a ≡ checked s → (a ≡ checked s) × ((a .number ≡ 0) ↔ Passes s)
+met s a e = (e, rw e (checked-iff s))
+
+-- a sheet whose header passes, parsed
+module _ (s : List ℕ) (p : Sheet) (read : p ≡ parsed (sheetOf s)) where
+  pub discount-read : p .discount ≡ 1_000_000 + sheetOf s .rate
+  unfolding parsed
+  discount-read = ap (λ (q : Sheet). q .discount) read
+
+  pub discount-small : headerNumber s ≡ 0 → p .discount ≤ 1_200_000
+  discount-small h =
+      let d = discount-read in
+      let r = header-iff s .0 h .rate in
+      omega arith
+
+  pub terms-read : (k : ℕ) (other : Terms) → k < 3 → getD (p .options) k other ≡ termsOf (sheetOf s .option k)
+  terms-read k other h = rw read (getD-options (sheetOf s) k other h)
+
+  pub overhauls-read : (k : ℕ) (other : Terms) → k < 3 → getD (p .options) k other .overhauls ≡ overhaulsOf (sheetOf s .option k)
+  unfolding termsOf
+  overhauls-read k other h = ap (λ (t : Terms). t .overhauls) (terms-read k other h)
+
+-- a turn of the inner loop
+pub next-overhaul :
+    (o : OptionRecord) (k j : ℕ) → firstBelow j (overhaulAnswer o k) ≡ accepted 0 → overhaulOk o j ≡ true →
+    firstBelow (j + 1) (overhaulAnswer o k) ≡ accepted 0
+unfolding overhaulAnswer _unless_else_
+next-overhaul o k j e q = first-suc j (overhaulAnswer o k) e ∙ rw q
+
+module _ (s : List ℕ) where
+  -- a turn of the outer loop
+  pub next-option :
+      (k j : ℕ) → firstBelow k (optionAnswer (sheetOf s)) ≡ accepted 0 → fieldsNumber (sheetOf s .rate) (sheetOf s .option k) ≡ 0 →
+      j ≡ 8 → firstBelow j (overhaulAnswer (sheetOf s .option k) k) ≡ accepted 0 →
+      firstBelow (k + 1) (optionAnswer (sheetOf s)) ≡ accepted 0
+  unfolding optionAnswer
+  next-option k j e f q g = first-suc k (optionAnswer (sheetOf s)) e ∙ rw (f, ← q, g)
+
+  -- the ways out
+  pub header-refused : (n : ℕ) → n ≡ headerNumber s → (n ≡ 0 → ⊥) → refused n 3 ≡ checked s
+  unfolding checked
+  header-refused n e h = rw (← e, answered-some n 3 h) (sym (orElse-stop (refused n 3) _ h))
+
+  module _ (passed : headerNumber s ≡ 0) where
+    pub all-passed : (k : ℕ) → k ≡ 3 → firstBelow k (optionAnswer (sheetOf s)) ≡ accepted 0 → accepted 0 ≡ checked s
+    unfolding checked
+    all-passed k q e = rw (passed, rw q at e)
+
+    module _ (k : ℕ) (inside : k < 3) (before : firstBelow k (optionAnswer (sheetOf s)) ≡ accepted 0) where
+      option-refused : (n : ℕ) → (n ≡ 0 → ⊥) → optionAnswer (sheetOf s) k ≡ refused n k → refused n k ≡ checked s
+      unfolding checked
+      option-refused n h q =
+          let z : optionAnswer (sheetOf s) k .number ≡ 0 → ⊥ = rw q h in
+          rw passed (sym (first-found k 3 (optionAnswer (sheetOf s)) inside before z ∙ q))
+
+      pub fields-refused : (n : ℕ) → n ≡ fieldsNumber (sheetOf s .rate) (sheetOf s .option k) → (n ≡ 0 → ⊥) → refused n k ≡ checked s
+      unfolding optionAnswer
+      fields-refused n e h = option-refused n h (rw (← e, answered-some n k h) (orElse-stop (refused n k) _ h))
+
+      pub overhaul-refused :
+          (j : ℕ) → fieldsNumber (sheetOf s .rate) (sheetOf s .option k) ≡ 0 → j < 8 →
+          firstBelow j (overhaulAnswer (sheetOf s .option k) k) ≡ accepted 0 → overhaulOk (sheetOf s .option k) j ≡ false →
+          refused 9 k ≡ checked s
+      unfolding optionAnswer overhaulAnswer _unless_else_
+      overhaul-refused j f l e q =
+          let found : overhaulAnswer (sheetOf s .option k) k j ≡ refused 9 k = rw q in
+          let z : overhaulAnswer (sheetOf s .option k) k j .number ≡ 0 → ⊥ = rw found (λ h. omega arith) in
+          option-refused 9 (λ h. omega arith) (rw f (first-found j 8 (overhaulAnswer (sheetOf s .option k) k) l e z ∙ found))

@@ -1,0 +1,48 @@
+-- What `checked` answers: its total is 0, and its number and option are in the table. Assumes nothing.
+use Prim.Native.Nat.{ℕ, _≤_, _<_}
+use mathlib.Core.Path.{_≡_, refl}
+use mathlib.Core.List.{List}
+use native.Mathlib.Omega.{arith}
+use lib.Dec.{lit≤}
+use Rattle.sheet.specs.Sheet.{OptionRecord, PlanningSheet, sheetOf}
+use Rattle.checking.specs.Answer.{accepted, refused, firstBelow, InTable}
+use Rattle.checking.specs.Refusals.{overhaulAnswer, headerNumber, fieldsNumber, optionAnswer, checked}
+use Rattle.checking.specs.declared.Answer.{Answer}
+use Rattle.checking.proofs.AnswerLaws.{unless-le, answered-all, orElse-all, first-all}
+
+header-le : (s : List ℕ) → headerNumber s ≤ 9
+unfolding headerNumber
+header-le s =
+    unless-le 1 _ _ 9 (lit≤ tt) (unless-le 2 _ _ 9 (lit≤ tt) (unless-le 3 _ _ 9 (lit≤ tt) (unless-le 4 _ _ 9 (lit≤ tt) (lit≤ tt))))
+
+fields-le : (r : ℕ) (o : OptionRecord) → fieldsNumber r o ≤ 9
+unfolding fieldsNumber
+fields-le r o =
+    unless-le 5 _ _ 9 (lit≤ tt)
+    (unless-le 6 _ _ 9 (lit≤ tt) (unless-le 7 _ _ 9 (lit≤ tt) (unless-le 8 _ _ 9 (lit≤ tt) (unless-le 9 _ _ 9 (lit≤ tt) (lit≤ tt)))))
+
+-- what holds of an accepted answer and of refusals up to 9 at options up to 3 holds of a checked sheet's answer
+module _ (P : Answer → Type 0) (a : P (accepted 0)) (r : (n k : ℕ) → n ≤ 9 → k ≤ 3 → P (refused n k)) where
+  overhaul-all : (o : OptionRecord) (k j : ℕ) → k < 3 → P (overhaulAnswer o k j)
+  unfolding overhaulAnswer
+  overhaul-all o k j h = answered-all P _ k a (r _ k (unless-le 9 _ 0 9 (lit≤ tt) (lit≤ tt)) (omega arith))
+
+  option-all : (p : PlanningSheet) (k : ℕ) → k < 3 → P (optionAnswer p k)
+  unfolding optionAnswer
+  option-all p k h =
+      orElse-all P _ _ (answered-all P _ k a (r _ k (fields-le (p .rate) (p .option k)) (omega arith)))
+      (first-all P 8 _ a (λ j l. overhaul-all (p .option k) k j h))
+
+  checked-all : (s : List ℕ) → P (checked s)
+  unfolding checked
+  checked-all s =
+      orElse-all P _ _ (answered-all P _ 3 a (r _ 3 (header-le s) (lit≤ tt)))
+      (first-all P 3 _ a (λ k l. option-all (sheetOf s) k l))
+
+pub checked-total : (s : List ℕ) → checked s .total ≡ 0
+checked-total = checked-all (λ (a : Answer). a .total ≡ 0) refl (λ n k h l. refl)
+
+pub checked-range : (s : List ℕ) → InTable (checked s)
+checked-range =
+    checked-all InTable (record { number = lit≤ tt; option = lit≤ tt })
+    (λ n k h l. record { number = omega arith; option = l })

@@ -1,0 +1,39 @@
+-- A test and what it means: each law says that a test is true exactly when the fact holds. Assumes nothing.
+use Prim.Native.Nat.{ℕ, _≤_, _<_}
+use mathlib.Core.Path.{_≡_, refl, sym, subst}
+use mathlib.Core.Bool.{Bool, true, false, _&&_, _||_, false≢true}
+use mathlib.Core.Logic.{_↔_, _⊎_, inl, inr, ⊎-elim, Iff·trans, Iff·and}
+use lib.Dec.{T, leb, ltb, eqb}
+use lib.IntN.{ℤ}
+use lib.Signed.{leZ, _≤ℤ_}
+use borrow.Author.Tests.{leb-true, ltb-true, eqb-true, le-leb, lt-ltb, eq-eqb}
+
+pub by-test : {P : Type 0} (test : Bool) → (test ≡ true → P) → (test ≡ false → P) → P
+by-test true f g = f refl
+by-test false f g = g refl
+
+pub leb-iff : (a b : ℕ) → (leb a b ≡ true) ↔ (a ≤ b)
+leb-iff a b = (leb-true a b, le-leb a b)
+
+pub ltb-iff : (a b : ℕ) → (ltb a b ≡ true) ↔ (a < b)
+ltb-iff a b = (ltb-true a b, lt-ltb a b)
+
+pub eqb-iff : (a b : ℕ) → (eqb a b ≡ true) ↔ (a ≡ b)
+eqb-iff a b = (eqb-true a b, eq-eqb a b)
+
+true-of : (b : Bool) → T b → b ≡ true
+true-of true h = refl
+true-of false h = absurd h
+
+pub leZ-iff : (a b : ℤ) → (leZ a b ≡ true) ↔ (a ≤ℤ b)
+leZ-iff a b = (λ e. record { le = subst T (sym e) tt }, λ h. true-of (leZ a b) (h .le))
+
+-- both of two tests, each with its meaning
+pub both-iff : {a b : Bool} {P Q : Type 0} → (a ≡ true) ↔ P → (b ≡ true) ↔ Q → (a && b ≡ true) ↔ (P × Q)
+both-iff {a = true} p q = (λ e. (p .0 refl, q .0 e), λ h. q .1 (h .1))
+both-iff {a = false} p q = (λ e. absurd (false≢true e), λ h. p .1 (h .0))
+
+-- one of two tests
+pub either-iff : {a b : Bool} {P Q : Type 0} → (a ≡ true) ↔ P → (b ≡ true) ↔ Q → (a || b ≡ true) ↔ (P ⊎ Q)
+either-iff {a = true} p q = (λ e. inl (p .0 refl), λ h. refl)
+either-iff {a = false} p q = (λ e. inr (q .0 e), ⊎-elim (λ h. absurd (false≢true (p .1 h))) (q .1))

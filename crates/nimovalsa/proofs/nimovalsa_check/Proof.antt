@@ -1,0 +1,20 @@
+-- `nimovalsa_check` returns what `check` answers; the answer packs, since its total is 0 and it is in the table. Assumes nothing.
+use lib.Dec.{lit<}
+use Rattle.checking.proofs.RangeLaws.{checked-range, checked-total}
+use borrow.Author.Needs.{needs}
+use Rattle.nimovalsa.proofs.nimovalsa_check.Statement.{statement}
+use Rattle.nimovalsa.proofs.nimovalsa_check.Tie as tie
+
+check-requires : tie.Need-check-requires
+check-requires c κs = search needs
+
+pack-requires : tie.Need-pack-requires
+pack-requires c κs = rw (c .check .ensures .0) (checked-range _, rw checked-total (lit< tt))
+
+returns : tie.Need-returns
+returns c =
+    let a = c .before .check .ensures in
+    (rw (← a .0) (c .pack .ensures), rw (c .pack .ensures .number) (a .1))
+
+pub nimovalsa-check-spec : {M : Type 1} → statement M
+nimovalsa-check-spec = tie.close (tie.spec check-requires pack-requires returns)

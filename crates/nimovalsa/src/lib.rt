@@ -1,0 +1,27 @@
+// The C forms: each calls its Rattle form and packs the answer into one u64. A slice is a pointer and then a length.
+// The declarations for C are in include/nimovalsa.h.
+
+ghost use mathlib.Core.Path.{_≡_};
+ghost use mathlib.Core.Logic.{_↔_};
+ghost use Prim.Native.Nat.{_<_};
+ghost use Rattle.checking.specs.Answer.{InTable};
+ghost use Rattle.checking.specs.Refusals.{checked};
+ghost use Rattle.checking.specs.Passes.{Passes};
+ghost use Rattle.nimovalsa.specs.Packed.{numberIn, Returns};
+use checking::Answer;
+
+fn pack(a: Answer) -> u64
+    requires { ⌜ InTable a × (a .total < 72_057_594_037_927_936) ⌝ }
+    ensures { λ r. ⌜ Returns r a ⌝ }
+{
+    a.total * 256 + (a.number as u64) * 4 + (a.option as u64)
+}
+
+// Checking a sheet: total 0, and the number and the option of the refusal table.
+#[no_mangle]
+pub extern "C" fn nimovalsa_check(sheet: &[u8]) -> u64
+    ensures answer { λ r. ⌜ Returns r (checked (now (sheet .entry))) ⌝ }
+    ensures accepted { λ r. ⌜ (numberIn r ≡ 0) ↔ Passes (now (sheet .entry)) ⌝ }
+{
+    pack(checking::check(sheet))
+}

@@ -1,0 +1,41 @@
+-- Laws of `factor`. In order:
+--     factor-value    the factor of f is 1,000,000 + f, for f from −1,000,000 up
+--     factor-low      f is at least −100,000 exactly where its factor is at least 900,000
+--     factor-high     f is at most r exactly where its factor is at most 1,000,000 + r
+-- Assumes nothing.
+use Prim.Native.Nat.{ℕ, suc, _+_, _-_, _≤_}
+use mathlib.Core.Path.{_≡_, refl, sym}
+use mathlib.Core.Bool.{Bool, true, false}
+use native.Mathlib.Omega.{arith}
+use lib.Dec.{leb}
+use lib.IntN.{ℤ, pos, negsuc, negℤ, _+ℤ_}
+use lib.Signed.{leZ}
+use borrow.Author.Tests.{leb-true, le-leb, le-ltb}
+use Rattle.sheet.specs.Sheet.{factor}
+
+-- two tests that hold together are equal
+pub bool-same : (a b : Bool) → (a ≡ true → b ≡ true) → (b ≡ true → a ≡ true) → a ≡ b
+bool-same true b f g = sym (f refl)
+bool-same false true f g = g refl
+bool-same false false f g = refl
+
+pub leb-same : (a b c d : ℕ) → (a ≤ b → c ≤ d) → (c ≤ d → a ≤ b) → leb a b ≡ leb c d
+leb-same a b c d f g =
+    bool-same (leb a b) (leb c d) (λ e. le-leb c d (f (leb-true a b e))) (λ e. le-leb a b (g (leb-true c d e)))
+
+pub factor-value : (f : ℤ) → leZ (negℤ (pos 1_000_000)) f ≡ true → pos (factor f) ≡ pos 1_000_000 +ℤ f
+unfolding factor
+factor-value (pos f) h = refl
+factor-value (negsuc f) h =
+    let k = leb-true f 999_999 h in
+    simp (le-ltb 1_000_000 (suc f) (omega arith))
+
+pub factor-low : (f : ℤ) → leZ (negℤ (pos 100_000)) f ≡ leb 900_000 (factor f)
+unfolding factor
+factor-low (pos f) = sym (le-leb 900_000 (1_000_000 + f) (omega arith))
+factor-low (negsuc f) = leb-same f 99_999 900_000 (1_000_000 - suc f) (λ h. omega arith) (λ h. omega arith)
+
+pub factor-high : (f : ℤ) (r : ℕ) → leZ f (pos r) ≡ leb (factor f) (1_000_000 + r)
+unfolding factor
+factor-high (pos f) r = leb-same f r (1_000_000 + f) (1_000_000 + r) (λ h. omega arith) (λ h. omega arith)
+factor-high (negsuc f) r = sym (le-leb (1_000_000 - suc f) (1_000_000 + r) (omega arith))

@@ -1,0 +1,18 @@
+-- `factor_at`: the four bytes as a u32, then its factor as an i32. Assumes nothing.
+use Rattle.sheet.specs.Layout.{i32At}
+use borrow.Author.Needs.{needs}
+use Rattle.sheet.proofs.fields.factor_at.Statement.{statement}
+use Rattle.sheet.proofs.fields.factor_at.Tie as tie
+
+u32-at-requires : tie.Need-u32-at-requires
+u32-at-requires c κs = search needs
+
+factor-of-requires : tie.Need-factor-of-requires
+factor-of-requires c κs = search needs
+
+returns : tie.Need-returns
+unfolding i32At
+returns c = cc
+
+pub factor-at-spec : {M : Type 1} → statement M
+factor-at-spec = tie.close (tie.spec u32-at-requires factor-of-requires returns)

@@ -1,0 +1,67 @@
+-- The planning sheet as document 01 describes it, field by field: `sheetOf` reads one from bytes.
+-- Amounts are whole currency units at the price level of year 0; rates are in millionths (40,000 is 4 percent a year). Definitions only.
+use Prim.Native.Nat.{ℕ, suc, _+_, _*_, _-_}
+use mathlib.Core.List.{List}
+use lib.ListN.{getD}
+use lib.IntN.{ℤ, pos, negsuc}
+use Rattle.sheet.specs.Layout.{u16At, u32At, i32At, recordStart}
+
+-- an amount with f, its differential inflation, and g, its ageing rate
+pub record Expense : Type 0 where
+  pub amount : ℕ
+  pub inflation : ℤ
+  pub ageing : ℕ
+
+pub record Overhaul : Type 0 where
+  pub age : ℕ
+  pub amount : ℕ
+
+-- an option's record; the investment has no ageing, and `overhaul j` is the j-th of the eight overhauls, from 0
+pub record OptionRecord : Type 0 where
+  pub shortest : ℕ
+  pub longest : ℕ
+  pub investment : Expense
+  pub maintenance : Expense
+  pub electricity : Expense
+  pub overhaulInflation : ℤ
+  pub overhaulCount : ℕ
+  pub overhaul : ℕ → Overhaul
+
+-- horizon T, real discount rate r, and the options: maintain is 0, renovate 1, replace 2
+pub record PlanningSheet : Type 0 where
+  pub version : ℕ
+  pub horizon : ℕ
+  pub rate : ℕ
+  pub option : ℕ → OptionRecord
+
+-- an amount u32, its inflation i32, its ageing u32
+unfoldable pub expenseAt : List ℕ → ℕ → Expense
+expenseAt s at = record { amount = u32At s at; inflation = i32At s (at + 4); ageing = u32At s (at + 8) }
+
+-- an amount u32, its inflation i32
+unfoldable pub onceAt : List ℕ → ℕ → Expense
+onceAt s at = record { amount = u32At s at; inflation = i32At s (at + 4); ageing = 0 }
+
+-- the record that starts at a place
+unfoldable pub optionAt : List ℕ → ℕ → OptionRecord
+optionAt s at =
+    record {
+      shortest = u16At s at;
+      longest = u16At s (at + 2);
+      investment = onceAt s (at + 4);
+      maintenance = expenseAt s (at + 12);
+      electricity = expenseAt s (at + 24);
+      overhaulInflation = i32At s (at + 36);
+      overhaulCount = getD s (at + 40) 0;
+      overhaul = λ j. record { age = u16At s (at + (41 + 6 * j)); amount = u32At s (at + (43 + 6 * j)) };
+    }
+
+-- behind the three bytes of the mark: version u16, horizon u16, rate u32, then the options' records
+unfoldable pub sheetOf : List ℕ → PlanningSheet
+sheetOf s =
+    record { version = u16At s 3; horizon = u16At s 5; rate = u32At s 7; option = λ k. optionAt s (recordStart k) }
+
+-- a rate's factor, 1,000,000 + f; 0 where that would be negative, which check 7 refuses
+unfoldable pub factor : ℤ → ℕ
+factor (pos f) = 1_000_000 + f
+factor (negsuc f) = 1_000_000 - suc f

@@ -1,0 +1,96 @@
+// An option's record of 89 bytes, read into `Terms`.
+
+ghost use mathlib.Core.Path.{_≡_};
+ghost use Prim.Native.Nat.{_+_, _≤_};
+ghost use lib.ListN.{length};
+ghost use Rattle.sheet.specs.Layout.{recordLength};
+ghost use Rattle.sheet.specs.Sheet.{expenseAt, onceAt, optionAt};
+ghost use Rattle.sheet.specs.Parsed.{listed, flowOf, overhaulsOf, termsOf};
+use crate::Flow;
+use crate::Overhauls;
+use crate::Terms;
+use crate::fields;
+
+fn once_at(s: &[u8], at: usize) -> Flow
+    requires { ⌜ at + 8 ≤ length (now s) ⌝ }
+    ensures { λ r. ⌜ r ≡ flowOf (onceAt (now (s .entry)) at) ⌝ }
+{
+    Flow {
+        amount: fields::u32_at(s, at),
+        grow: fields::factor_at(s, at + 4),
+        age: 1000000,
+    }
+}
+
+fn flow_at(s: &[u8], at: usize) -> Flow
+    requires { ⌜ at + 12 ≤ length (now s) ⌝ }
+    ensures { λ r. ⌜ r ≡ flowOf (expenseAt (now (s .entry)) at) ⌝ }
+{
+    Flow {
+        amount: fields::u32_at(s, at),
+        grow: fields::factor_at(s, at + 4),
+        age: 1_000_000 + fields::u32_at(s, at + 8),
+    }
+}
+
+fn ages_at(s: &[u8], at: usize) -> [u64; 8]
+    requires { ⌜ at + recordLength ≤ length (now s) ⌝ }
+    ensures { λ r. ⌜ r ≡ listed 8 (λ j. optionAt (now (s .entry)) at .overhaul j .age) ⌝ }
+{
+    [
+        fields::u16_at(s, at + 41),
+        fields::u16_at(s, at + 47),
+        fields::u16_at(s, at + 53),
+        fields::u16_at(s, at + 59),
+        fields::u16_at(s, at + 65),
+        fields::u16_at(s, at + 71),
+        fields::u16_at(s, at + 77),
+        fields::u16_at(s, at + 83),
+    ]
+}
+
+fn amounts_at(s: &[u8], at: usize) -> [u64; 8]
+    requires { ⌜ at + recordLength ≤ length (now s) ⌝ }
+    ensures { λ r. ⌜ r ≡ listed 8 (λ j. optionAt (now (s .entry)) at .overhaul j .amount) ⌝ }
+{
+    [
+        fields::u32_at(s, at + 43),
+        fields::u32_at(s, at + 49),
+        fields::u32_at(s, at + 55),
+        fields::u32_at(s, at + 61),
+        fields::u32_at(s, at + 67),
+        fields::u32_at(s, at + 73),
+        fields::u32_at(s, at + 79),
+        fields::u32_at(s, at + 85),
+    ]
+}
+
+fn overhauls_at(s: &[u8], at: usize) -> Overhauls
+    requires { ⌜ at + recordLength ≤ length (now s) ⌝ }
+    ensures { λ r. ⌜ r ≡ overhaulsOf (optionAt (now (s .entry)) at) ⌝ }
+{
+    let ages = ages_at(s, at);
+    let amounts = amounts_at(s, at);
+    Overhauls {
+        grow: fields::factor_at(s, at + 36),
+        count: fields::u8_at(s, at + 40),
+        ages: ages,
+        amounts: amounts,
+    }
+}
+
+// The terms of the option whose record starts at `at`.
+pub fn terms_at(s: &[u8], at: usize) -> Terms
+    requires { ⌜ at + recordLength ≤ length (now s) ⌝ }
+    ensures { λ r. ⌜ r ≡ termsOf (optionAt (now (s .entry)) at) ⌝ }
+{
+    let overhauls = overhauls_at(s, at);
+    Terms {
+        shortest: fields::u16_at(s, at),
+        longest: fields::u16_at(s, at + 2),
+        investment: once_at(s, at + 4),
+        maintenance: flow_at(s, at + 12),
+        electricity: flow_at(s, at + 24),
+        overhauls: overhauls,
+    }
+}
