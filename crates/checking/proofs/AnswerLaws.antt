@@ -26,6 +26,19 @@ unfolding _unless_else_
 unless-iff {rule = true} n h p q = (λ e. (p .0 refl, q .0 e), λ k. q .1 (k .1))
 unless-iff {rule = false} n h p q = (λ e. absurd (omega arith), λ k. absurd (false≢true (p .1 (k .0))))
 
+-- a row whose rule holds, and one whose rule does not
+pub unless-pass : (n : ℕ) {rule : Bool} (next : ℕ) → rule ≡ true → (n unless rule else next) ≡ next
+unfolding _unless_else_
+unless-pass n next h = rw h
+
+pub unless-stop : (n : ℕ) {rule : Bool} (next : ℕ) → rule ≡ false → (n unless rule else next) ≡ n
+unfolding _unless_else_
+unless-stop n next h = rw h
+
+-- a row, of equal rules and equal rests
+pub unless-same : (n : ℕ) {a b : Bool} {x y : ℕ} → a ≡ b → x ≡ y → (n unless a else x) ≡ (n unless b else y)
+unless-same n p q = λ i. n unless p i else q i
+
 pub answered-iff : (n k : ℕ) → (answered n k .number ≡ 0) ↔ (n ≡ 0)
 answered-iff zero k = Iff·rfl
 answered-iff (suc n) k = rw (eqb·suc-zero n) Iff·rfl

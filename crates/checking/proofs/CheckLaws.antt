@@ -20,9 +20,9 @@ use Rattle.checking.specs.declared.Answer.{Answer}
 use Rattle.checking.proofs.AnswerLaws.{first-suc, first-found, answered-some, orElse-stop}
 use Rattle.checking.proofs.PassesLaws.{header-iff, checked-iff}
 
--- what is shown of an answer
-pub met : (s : List ℕ) (a : Answer) → a ≡ checked s → (a ≡ checked s) × ((a .number ≡ 0) ↔ Passes s)
-met s a e = (e, rw e (checked-iff s))
+-- what is shown of an answer a, which is b
+pub met : (s : List ℕ) (a b : Answer) → a ≡ b → b ≡ checked s → (a ≡ checked s) × ((a .number ≡ 0) ↔ Passes s)
+met s a b p q = (p ∙ q, rw (p ∙ q) (checked-iff s))
 
 -- a sheet whose header passes, parsed
 module _ (s : List ℕ) (p : Sheet) (read : p ≡ parsed (sheetOf s)) where

@@ -34,8 +34,8 @@ flow-fits r e a f g =
     record {
       amount = a;
       grow = grow-fits r (e .inflation) f;
-      young = omega arith;
-      old = let h = g .ageing in omega arith;
+      ageLow = omega arith;
+      ageHigh = let h = g .ageing in omega arith;
       product = g .product;
     }
 
@@ -64,8 +64,8 @@ overhauls-fit r o h =
     record {
       grow = grow-fits r (o .overhaulInflation) (h .overhaulInflation);
       count = few;
-      early = λ j l. rw (age j l) (h .used j l .low);
-      late = λ j l. rw (age j l) (h .used j l .high);
+      ageLow = λ j l. rw (age j l) (h .used j l .low);
+      ageHigh = λ j l. rw (age j l) (h .used j l .high);
       rising = λ i j k l.
           rw (age i (omega arith), age j l) (rising o (o .overhaulCount) (λ n m. h .used n m .rising) i j k l);
       amount = λ j l. rw (entry-amount v o refl j (omega arith)) (h .used j l .amount);
@@ -92,10 +92,10 @@ fit s h =
     let r = sheetOf s .rate in
     let low = h .header .rate in
     record {
-      soonest = h .header .horizon .0;
-      latest = h .header .horizon .1;
-      par = omega arith;
-      discount = omega arith;
+      horizonLow = h .header .horizon .0;
+      horizonHigh = h .header .horizon .1;
+      discountLow = omega arith;
+      discountHigh = omega arith;
       options = λ k other l.
           rw (getD-options (sheetOf s) k other l) (terms-fit r (sheetOf s .option k) (investment-ageing s k) (h .options k l));
     }

@@ -15,12 +15,7 @@ use Rattle.sheet.specs.declared.Flow.{Flow}
 use Rattle.sheet.specs.declared.Overhauls.{Overhauls}
 use Rattle.sheet.proofs.FactorLaws.{factor-low, factor-high}
 use Rattle.sheet.proofs.ParsedLaws.{getD-listed}
-use Rattle.checking.specs.Answer.{_unless_else_}
 use Rattle.checking.specs.Refusals.{inflationOk, ageingOk, entryOk, ageBefore, overhaulOk}
-
--- a row of the table, of equal rules and equal rests
-pub unless-same : (n : ℕ) {a b : Bool} {x y : ℕ} → a ≡ b → x ≡ y → (n unless a else x) ≡ (n unless b else y)
-unless-same n p q = cc
 
 -- 7
 pub inflation-tested :

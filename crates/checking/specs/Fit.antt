@@ -16,16 +16,16 @@ pub record GrowFits (discount grow : ℕ) : Type 0 where
 pub record FlowFits (discount : ℕ) (w : Flow) : Type 0 where
   pub amount : w .amount ≤ 1_000_000_000
   pub grow : GrowFits discount (w .grow)
-  pub young : 1_000_000 ≤ w .age
-  pub old : w .age ≤ 1_300_000
+  pub ageLow : 1_000_000 ≤ w .age
+  pub ageHigh : w .age ≤ 1_300_000
   pub product : w .grow * w .age ≤ 1_000_000 * discount
 
 -- at most 8 overhauls are used; their ages rise from 1 to 119
 pub record OverhaulsFit (discount : ℕ) (o : Overhauls) : Type 0 where
   pub grow : GrowFits discount (o .grow)
   pub count : o .count ≤ 8
-  pub early : (j : ℕ) → j < o .count → 1 ≤ getD (o .ages) j 0
-  pub late : (j : ℕ) → j < o .count → getD (o .ages) j 0 ≤ 119
+  pub ageLow : (j : ℕ) → j < o .count → 1 ≤ getD (o .ages) j 0
+  pub ageHigh : (j : ℕ) → j < o .count → getD (o .ages) j 0 ≤ 119
   pub rising : (i j : ℕ) → i < j → j < o .count → getD (o .ages) i 0 < getD (o .ages) j 0
   pub amount : (j : ℕ) → j < o .count → getD (o .amounts) j 0 ≤ 1_000_000_000
 
@@ -40,8 +40,8 @@ pub record TermsFit (discount : ℕ) (t : Terms) : Type 0 where
   pub overhauls : OverhaulsFit discount (t .overhauls)
 
 pub record Fit (p : Sheet) : Type 0 where
-  pub soonest : 1 ≤ p .horizon
-  pub latest : p .horizon ≤ 300
-  pub par : 1_000_000 ≤ p .discount
-  pub discount : p .discount ≤ 1_200_000
+  pub horizonLow : 1 ≤ p .horizon
+  pub horizonHigh : p .horizon ≤ 300
+  pub discountLow : 1_000_000 ≤ p .discount
+  pub discountHigh : p .discount ≤ 1_200_000
   pub options : (k : ℕ) (other : Terms) → k < 3 → TermsFit (p .discount) (getD (p .options) k other)

@@ -1,5 +1,6 @@
 -- Refusals 1 to 9 of a planning sheet, a definition a row of document 01's 'Refusal table', in its order; `checked` is the first of
--- them in the order that the document gives below the table. Definitions only.
+-- them in the order that the document gives below the table. A rule is a test that is true where the row does not refuse: `leb a b`
+-- tests a ≤ b, `ltb a b` a < b, `eqb a b` a = b, and `leZ` a ≤ b of integers. Definitions only.
 use Prim.Native.Nat.{ℕ, zero, suc, _+_, _*_}
 use mathlib.Core.List.{List}
 use mathlib.Core.Bool.{Bool, _&&_, _||_}

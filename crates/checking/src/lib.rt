@@ -3,7 +3,7 @@
 
 ghost use mathlib.Core.Path.{_≡_};
 ghost use mathlib.Core.Logic.{_↔_};
-ghost use Rattle.checking.specs.Answer.{_unless_else_};
+ghost use Rattle.checking.specs.Answer.{accepted, refused, _unless_else_};
 ghost use Rattle.checking.specs.Refusals.{checked};
 ghost use Rattle.checking.specs.Passes.{Passes};
 
@@ -17,7 +17,28 @@ pub struct Answer {
     pub option: u8,
 }
 
-// `number` where the rule does not hold, else `next`: a row of the refusal table. It serves the crates above too.
+// An accepted call, and a refused one. They serve the crates above too, as `unless` does.
+pub fn accepted(total: u64) -> Answer
+    ensures { λ r. ⌜ r ≡ accepted total ⌝ }
+{
+    Answer {
+        total: total,
+        number: 0,
+        option: 3,
+    }
+}
+
+pub fn refused(number: u8, option: u8) -> Answer
+    ensures { λ r. ⌜ r ≡ refused number option ⌝ }
+{
+    Answer {
+        total: 0,
+        number: number,
+        option: option,
+    }
+}
+
+// A row of the refusal table: `number` where the rule does not hold, else `next`.
 pub fn unless(number: u8, holds: bool, next: u8) -> u8
     ensures { λ r. ⌜ r ≡ (number unless holds else next) ⌝ }
 {
@@ -29,43 +50,27 @@ pub fn check(sheet: &[u8]) -> Answer
     ensures answer { λ r. ⌜ r ≡ checked (now (sheet .entry)) ⌝ }
     ensures accepted { λ r. ⌜ (r .number ≡ 0) ↔ Passes (now (sheet .entry)) ⌝ }
 {
-    let number = header::header_number(sheet);
-    if number != 0 {
-        return Answer {
-            total: 0,
-            number: number,
-            option: 3,
-        };
+    let header = header::header_number(sheet);
+    if header != 0 {
+        return refused(header, 3);
     }
-    let p = sheet::parse(sheet);
-    let discount = p.discount;
+    let parsed = sheet::parse(sheet);
+    let discount = parsed.discount;
     let mut k: u8 = 0;
     'options: loop {
         if k == 3 {
-            break 'options Answer {
-                total: 0,
-                number: 0,
-                option: 3,
-            };
+            break 'options accepted(0);
         }
-        let terms = p.options[k as usize];
-        let fault = option::fields_number(discount, terms);
-        if fault != 0 {
-            break 'options Answer {
-                total: 0,
-                number: fault,
-                option: k,
-            };
+        let terms = parsed.options[k as usize];
+        let number = option::fields_number(discount, terms);
+        if number != 0 {
+            break 'options refused(number, k);
         }
         let overhauls = terms.overhauls;
         let mut j: usize = 0;
         while j < 8 {
             if !option::overhaul_ok(overhauls, j) {
-                break 'options Answer {
-                    total: 0,
-                    number: 9,
-                    option: k,
-                };
+                break 'options refused(9, k);
             }
             j += 1;
         }

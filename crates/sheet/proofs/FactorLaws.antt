@@ -1,16 +1,19 @@
 -- Laws of `factor`. In order:
+--     factor-positive, factor-none, factor-negative      the factor of an i32, by its four bytes
 --     factor-value    the factor of f is 1,000,000 + f, for f from −1,000,000 up
 --     factor-low      f is at least −100,000 exactly where its factor is at least 900,000
 --     factor-high     f is at most r exactly where its factor is at most 1,000,000 + r
 -- Assumes nothing.
-use Prim.Native.Nat.{ℕ, suc, _+_, _-_, _≤_}
+use Prim.Native.Nat.{ℕ, suc, _+_, _-_, _≤_, _<_}
 use mathlib.Core.Path.{_≡_, refl, sym}
 use mathlib.Core.Bool.{Bool, true, false}
 use native.Mathlib.Omega.{arith}
 use lib.Dec.{leb}
 use lib.IntN.{ℤ, pos, negsuc, negℤ, _+ℤ_}
 use lib.Signed.{leZ}
-use borrow.Author.Tests.{leb-true, le-leb, le-ltb}
+use mir.Val.{toZ}
+use mir.Syntax.{w32}
+use borrow.Author.Tests.{leb-true, le-leb, lt-ltb, le-ltb}
 use Rattle.sheet.specs.Sheet.{factor}
 
 -- two tests that hold together are equal
@@ -22,6 +25,19 @@ bool-same false false f g = refl
 pub leb-same : (a b c d : ℕ) → (a ≤ b → c ≤ d) → (c ≤ d → a ≤ b) → leb a b ≡ leb c d
 leb-same a b c d f g =
     bool-same (leb a b) (leb c d) (λ e. le-leb c d (f (leb-true a b e))) (λ e. le-leb a b (g (leb-true c d e)))
+
+-- four bytes stand for a number from 0 up, for one below −1,000,000, or for one between
+pub factor-positive : (x : ℕ) → x < 2_147_483_648 → 1_000_000 + x ≡ factor (toZ w32 x)
+unfolding factor
+factor-positive x h = rw (lt-ltb x 2_147_483_648 h)
+
+pub factor-none : (x : ℕ) → 2_147_483_648 ≤ x → x < 4_293_967_296 → 0 ≡ factor (toZ w32 x)
+unfolding factor
+factor-none x h l = rw (le-ltb x 2_147_483_648 h) (omega arith)
+
+pub factor-negative : (x : ℕ) → 4_293_967_296 ≤ x → x < 4_294_967_296 → x - 4_293_967_296 ≡ factor (toZ w32 x)
+unfolding factor
+factor-negative x h l = rw (le-ltb x 2_147_483_648 (omega arith)) (omega arith)
 
 pub factor-value : (f : ℤ) → leZ (negℤ (pos 1_000_000)) f ≡ true → pos (factor f) ≡ pos 1_000_000 +ℤ f
 unfolding factor

@@ -1,4 +1,4 @@
--- Laws for the crates above, in reading order. The functions' own proofs cite none of them.
+-- Laws of the definitions, in reading order, for the crates above. Of the functions here, `factor_of` alone cites one of them.
 pub mod LayoutLaws
 pub mod FactorLaws
 pub mod ParsedLaws

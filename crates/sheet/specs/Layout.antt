@@ -7,6 +7,7 @@ use lib.IntN.{ℤ}
 use mir.Val.{toZ}
 use mir.Syntax.{w32}
 
+-- two and four bytes, the lowest first
 abbrev pub sum16 : List ℕ → ℕ → ℕ
 sum16 s at = getD s at 0 + 256 * getD s (at + 1) 0
 

@@ -1,4 +1,6 @@
 -- `parse` reads the sheet's three records, its horizon and its rate. Assumes nothing.
+use Prim.Native.Nat.{_+_}
+use mathlib.Core.List.{[], _∷_}
 use Rattle.sheet.specs.Sheet.{sheetOf}
 use Rattle.sheet.specs.Parsed.{parsed}
 use borrow.Author.Needs.{needs}
@@ -25,7 +27,13 @@ add-t7 c = search needs
 
 returns : tie.Need-returns
 unfolding sheetOf parsed
-returns c = cc
+returns c =
+    λ i.
+    record {
+      horizon = c .before .u16-at .ensures .0 i;
+      discount = 1_000_000 + c .u32-at .ensures .0 i;
+      options = c .before .before .before .before .terms-at .ensures i ∷ c .before .before .before .terms-at2 .ensures i ∷ c .before .before .terms-at3 .ensures i ∷ [];
+    }
 
 pub parse-spec : {M : Type 1} → statement M
 parse-spec =

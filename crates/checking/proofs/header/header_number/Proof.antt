@@ -1,15 +1,20 @@
 -- The first of 1 to 4 of a sheet. Assumes nothing.
+use mathlib.Core.Path.{refl, sym, _∙_}
+use mathlib.Core.Bool.{_&&_}
+use native.Mathlib.Omega.{arith}
+use lib.ListN.{length}
 use borrow.Author.Tests.{eq-eqb, ne-eqb}
+use Rattle.sheet.specs.Layout.{sheetLength}
 use Rattle.sheet.specs.Sheet.{sheetOf}
-use Rattle.checking.specs.Answer.{_unless_else_}
-use Rattle.checking.specs.Refusals.{headerNumber}
+use Rattle.checking.specs.Refusals.{versionOk, horizonOk, rateOk, headerNumber}
+use Rattle.checking.proofs.AnswerLaws.{unless-pass, unless-stop, unless-same}
 use borrow.Author.Needs.{needs}
 use Rattle.checking.proofs.header.header_number.Statement.{statement}
 use Rattle.checking.proofs.header.header_number.Tie as tie
 
 returns : tie.Need-returns
-unfolding headerNumber _unless_else_
-returns c = rw (ne-eqb _ _ (c .if1 .taken))
+unfolding headerNumber
+returns c = sym (unless-stop 1 _ (ne-eqb (length (c .before .before .args .s .now)) sheetLength (λ e. omega arith)))
 
 mark-ok-requires : tie.Need-mark-ok-requires
 mark-ok-requires c κs = search needs
@@ -33,8 +38,13 @@ unless-requires-3 : tie.Need-unless-requires-3
 unless-requires-3 c κs = search needs
 
 returns-2 : tie.Need-returns-2
-unfolding headerNumber sheetOf _unless_else_
-returns-2 c = rw (eq-eqb _ _ (c .before .before .before .before .before .before .before .if1 .left)) (cc)
+unfolding headerNumber sheetOf
+returns-2 c =
+    c .unless3 .ensures
+    ∙ unless-same 2 (λ i. c .before .before .before .before .before .before .mark-ok .ensures i && versionOk (c .before .before .before .before .before .u16-at .ensures .0 i)) (c .before .unless2 .ensures
+    ∙ unless-same 3 (λ i. horizonOk (c .before .before .before .before .u16-at2 .ensures .0 i)) (c .before .before .unless .ensures
+    ∙ unless-same 4 (λ i. rateOk (c .before .before .before .u32-at .ensures .0 i)) refl))
+    ∙ sym (unless-pass 1 _ (eq-eqb (length (c .before .before .before .before .before .before .before .before .before .args .s .now)) sheetLength (omega arith)))
 
 pub header-number-spec : {M : Type 1} → statement M
 header-number-spec =

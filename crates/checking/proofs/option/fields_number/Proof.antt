@@ -3,7 +3,7 @@ use mathlib.Core.Path.{refl, ap, _∙_}
 use Rattle.sheet.specs.Parsed.{termsOf, flowOf, overhaulsOf}
 use Rattle.sheet.specs.declared.Terms.{Terms}
 use Rattle.checking.specs.Refusals.{livesOk, amountsOk, countOk, fieldsNumber}
-use Rattle.checking.proofs.RuleLaws.{unless-same}
+use Rattle.checking.proofs.AnswerLaws.{unless-same}
 use borrow.Author.Needs.{needs}
 use Rattle.checking.proofs.option.fields_number.Statement.{statement}
 use Rattle.checking.proofs.option.fields_number.Tie as tie

@@ -1,5 +1,6 @@
 -- Refusal 7 of the four inflations of a record. Assumes nothing.
 use mathlib.Core.Path.{ap}
+use mathlib.Core.Bool.{_&&_}
 use Rattle.sheet.specs.Parsed.{termsOf, flowOf, overhaulsOf}
 use Rattle.sheet.specs.declared.Terms.{Terms}
 use Rattle.checking.specs.Refusals.{inflationsOk}
@@ -27,7 +28,7 @@ returns c =
     let m = c .before .before .inflation-ok2 .ensures r (o .maintenance .inflation) d (ap (λ (v : Terms). v .maintenance .grow) t) in
     let e = c .before .inflation-ok3 .ensures r (o .electricity .inflation) d (ap (λ (v : Terms). v .electricity .grow) t) in
     let w = c .inflation-ok4 .ensures r (o .overhaulInflation) d (ap (λ (v : Terms). v .overhauls .grow) t) in
-    cc
+    λ n. i n && m n && e n && w n
 
 pub inflations-ok-spec : {M : Type 1} → statement M
 inflations-ok-spec =

@@ -1,4 +1,9 @@
 -- `factor_at`: the four bytes as a u32, then its factor as an i32. Assumes nothing.
+use Prim.Native.Nat.{ℕ}
+use mathlib.Core.Path.{ap, _∙_}
+use mir.Val.{toZ}
+use mir.Syntax.{w32}
+use Rattle.sheet.specs.Sheet.{factor}
 use Rattle.sheet.specs.Layout.{i32At}
 use borrow.Author.Needs.{needs}
 use Rattle.sheet.proofs.fields.factor_at.Statement.{statement}
@@ -12,7 +17,7 @@ factor-of-requires c κs = search needs
 
 returns : tie.Need-returns
 unfolding i32At
-returns c = cc
+returns c = c .factor-of .ensures ∙ ap (λ (x : ℕ). factor (toZ w32 x)) (c .before .u32-at .ensures .0)
 
 pub factor-at-spec : {M : Type 1} → statement M
 factor-at-spec = tie.close (tie.spec u32-at-requires factor-of-requires returns)

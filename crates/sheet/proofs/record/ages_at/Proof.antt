@@ -1,4 +1,5 @@
 -- `ages_at` reads the ages of the eight overhauls. Assumes nothing.
+use mathlib.Core.List.{[], _∷_}
 use Rattle.sheet.specs.Sheet.{optionAt}
 use borrow.Author.Needs.{needs}
 use Rattle.sheet.proofs.record.ages_at.Statement.{statement}
@@ -54,7 +55,17 @@ u16-at-requires-8 c κs = search needs
 
 returns : tie.Need-returns
 unfolding optionAt
-returns c = cc
+returns c =
+    λ i.
+    c .before .before .before .before .before .before .before .u16-at .ensures .0 i
+    ∷ c .before .before .before .before .before .before .u16-at2 .ensures .0 i
+    ∷ c .before .before .before .before .before .u16-at3 .ensures .0 i
+    ∷ c .before .before .before .before .u16-at4 .ensures .0 i
+    ∷ c .before .before .before .u16-at5 .ensures .0 i
+    ∷ c .before .before .u16-at6 .ensures .0 i
+    ∷ c .before .u16-at7 .ensures .0 i
+    ∷ c .u16-at8 .ensures .0 i
+    ∷ []
 
 pub ages-at-spec : {M : Type 1} → statement M
 ages-at-spec =

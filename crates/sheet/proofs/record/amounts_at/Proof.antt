@@ -1,4 +1,5 @@
 -- `amounts_at` reads the amounts of the eight overhauls. Assumes nothing.
+use mathlib.Core.List.{[], _∷_}
 use Rattle.sheet.specs.Sheet.{optionAt}
 use borrow.Author.Needs.{needs}
 use Rattle.sheet.proofs.record.amounts_at.Statement.{statement}
@@ -54,7 +55,17 @@ u32-at-requires-8 c κs = search needs
 
 returns : tie.Need-returns
 unfolding optionAt
-returns c = cc
+returns c =
+    λ i.
+    c .before .before .before .before .before .before .before .u32-at .ensures .0 i
+    ∷ c .before .before .before .before .before .before .u32-at2 .ensures .0 i
+    ∷ c .before .before .before .before .before .u32-at3 .ensures .0 i
+    ∷ c .before .before .before .before .u32-at4 .ensures .0 i
+    ∷ c .before .before .before .u32-at5 .ensures .0 i
+    ∷ c .before .before .u32-at6 .ensures .0 i
+    ∷ c .before .u32-at7 .ensures .0 i
+    ∷ c .u32-at8 .ensures .0 i
+    ∷ []
 
 pub amounts-at-spec : {M : Type 1} → statement M
 amounts-at-spec =

@@ -1,4 +1,5 @@
 -- `flow_at` reads an amount with its inflation and its ageing. Assumes nothing.
+use Prim.Native.Nat.{_+_}
 use Rattle.sheet.specs.Sheet.{expenseAt}
 use Rattle.sheet.specs.Parsed.{flowOf}
 use borrow.Author.Needs.{needs}
@@ -25,7 +26,13 @@ add-t8 c = search needs
 
 returns : tie.Need-returns
 unfolding expenseAt flowOf
-returns c = cc
+returns c =
+    λ i.
+    record {
+      amount = c .before .before .u32-at .ensures .0 i;
+      grow = c .before .factor-at .ensures i;
+      age = 1_000_000 + c .u32-at2 .ensures .0 i;
+    }
 
 pub flow-at-spec : {M : Type 1} → statement M
 flow-at-spec =

@@ -16,7 +16,8 @@ factor-at-requires c κs = search needs
 
 returns : tie.Need-returns
 unfolding onceAt flowOf
-returns c = cc
+returns c =
+    λ i. record { amount = c .before .u32-at .ensures .0 i; grow = c .factor-at .ensures i; age = 1_000_000 }
 
 pub once-at-spec : {M : Type 1} → statement M
 once-at-spec = tie.close (tie.spec u32-at-requires add-factor-at factor-at-requires returns)

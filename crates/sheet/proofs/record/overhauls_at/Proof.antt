@@ -25,7 +25,14 @@ u8-at-requires c κs = search needs
 
 returns : tie.Need-returns
 unfolding optionAt overhaulsOf
-returns c = cc
+returns c =
+    λ i.
+    record {
+      grow = c .before .factor-at .ensures i;
+      count = c .u8-at .ensures .0 i;
+      ages = c .before .before .before .ages-at .ensures i;
+      amounts = c .before .before .amounts-at .ensures i;
+    }
 
 pub overhauls-at-spec : {M : Type 1} → statement M
 overhauls-at-spec =

@@ -37,7 +37,16 @@ flow-at-requires-2 c κs = search needs
 
 returns : tie.Need-returns
 unfolding optionAt termsOf
-returns c = cc
+returns c =
+    λ i.
+    record {
+      shortest = c .before .before .before .before .u16-at .ensures .0 i;
+      longest = c .before .before .before .u16-at2 .ensures .0 i;
+      investment = c .before .before .once-at .ensures i;
+      maintenance = c .before .flow-at .ensures i;
+      electricity = c .flow-at2 .ensures i;
+      overhauls = c .before .before .before .before .before .overhauls-at .ensures i;
+    }
 
 pub terms-at-spec : {M : Type 1} → statement M
 terms-at-spec =
