@@ -11,33 +11,33 @@ use Rattle.sheet.specs.Layout.{sheetLength}
 use Rattle.sheet.specs.Sheet.{Expense, OptionRecord, PlanningSheet, sheetOf, factor}
 use Rattle.checking.specs.Refusals.{ageBefore}
 
--- 5
+-- 5: lives both 0, which means not offered, or 1 ≤ shortest ≤ longest ≤ 120
 abbrev pub LivesPass : ℕ → ℕ → Type 0
 LivesPass shortest longest =
     ((shortest ≡ 0) × (longest ≡ 0)) ⊎ ((1 ≤ shortest) × (shortest ≤ longest) × (longest ≤ 120))
 
--- 6
+-- 6 and 9: an amount is at most 10^9
 abbrev pub AmountPasses : ℕ → Type 0
 AmountPasses amount = amount ≤ 1_000_000_000
 
--- 7
+-- 7: an inflation is from −100,000 to r
 pub record InflationPasses (r : ℕ) (f : ℤ) : Type 0 where
   pub low : negℤ (pos 100_000) ≤ℤ f
   pub high : f ≤ℤ pos r
 
--- 8
+-- 8: an ageing is at most 300,000, and (10^6 + f)(10^6 + g) at most 10^6 (10^6 + r)
 pub record AgeingPasses (r : ℕ) (e : Expense) : Type 0 where
   pub ageing : e .ageing ≤ 300_000
   pub product : factor (e .inflation) * (1_000_000 + e .ageing) ≤ 1_000_000 * (1_000_000 + r)
 
--- 9, a used entry
+-- 9, a used entry: its age is 1 to 119 and above the one before, its amount at most 10^9
 pub record UsedPasses (o : OptionRecord) (j : ℕ) : Type 0 where
   pub low : 1 ≤ o .overhaul j .age
   pub high : o .overhaul j .age ≤ 119
   pub rising : ageBefore o j < o .overhaul j .age
   pub amount : AmountPasses (o .overhaul j .amount)
 
--- 9, an unused entry
+-- 9, an unused entry is zero
 pub record UnusedPasses (o : OptionRecord) (j : ℕ) : Type 0 where
   pub age : o .overhaul j .age ≡ 0
   pub amount : o .overhaul j .amount ≡ 0

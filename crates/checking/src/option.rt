@@ -13,7 +13,7 @@ use sheet::Flow;
 use sheet::Overhauls;
 use sheet::Terms;
 
-// 5
+// 5: both lives 0, or in order and at most 120
 fn lives_ok(t: Terms) -> bool
     ensures { λ b. ⌜ b ≡ livesOk (t .shortest) (t .longest) ⌝ }
 {
@@ -21,7 +21,7 @@ fn lives_ok(t: Terms) -> bool
         | ((1 <= t.shortest) & (t.shortest <= t.longest) & (t.longest <= 120))
 }
 
-// 6
+// 6: investment, maintenance and electricity at most 10^9
 fn amounts_ok(t: Terms) -> bool
     ensures { λ b. ⌜ b ≡ amountsOk (t .investment .amount) (t .maintenance .amount) (t .electricity .amount) ⌝ }
 {
@@ -30,13 +30,14 @@ fn amounts_ok(t: Terms) -> bool
         & (t.electricity.amount <= 1_000_000_000)
 }
 
-// 7, on the factors of r and of f
+// 7: f is from −100,000 to r, tested on their factors
 fn inflation_ok(discount: u64, grow: u64) -> bool
     ensures { λ b. ⌜ ((r : ℕ) (f : ℤ) → discount ≡ 1_000_000 + r → grow ≡ factor f → b ≡ inflationOk r f) ⌝ }
 {
     (900_000 <= grow) & (grow <= discount)
 }
 
+// 7, of all four
 fn inflations_ok(discount: u64, t: Terms) -> bool
     ensures { λ b. ⌜ ((r : ℕ) (o : OptionRecord) → discount ≡ 1_000_000 + r → t ≡ termsOf o → b ≡ inflationsOk r o) ⌝ }
 {
@@ -47,7 +48,8 @@ fn inflations_ok(discount: u64, t: Terms) -> bool
     investment & maintenance & electricity & overhauls
 }
 
-// 8. A factor above the discount's fails for every ageing; it is tested first, so that the product fits.
+// 8: an ageing at most 300,000, and the product within the discount. A factor above the discount's fails for every ageing; it is tested
+// first, so that the product fits.
 fn ageing_ok(discount: u64, w: Flow) -> bool
     requires { ⌜ discount ≤ 1_200_000 ⌝ }
     ensures { λ b. ⌜ ((r : ℕ) (e : Expense) → discount ≡ 1_000_000 + r → w ≡ flowOf e → b ≡ ageingOk r e) ⌝ }
@@ -61,6 +63,7 @@ fn ageing_ok(discount: u64, w: Flow) -> bool
     w.grow * w.age <= 1_000_000 * discount
 }
 
+// 8, of maintenance and electricity
 fn ageings_ok(discount: u64, t: Terms) -> bool
     requires { ⌜ discount ≤ 1_200_000 ⌝ }
     ensures { λ b. ⌜ ((r : ℕ) (o : OptionRecord) → discount ≡ 1_000_000 + r → t ≡ termsOf o → b ≡ ageingsOk r o) ⌝ }
@@ -78,7 +81,7 @@ fn age_before(ages: [u64; 8], j: usize) -> u64
     if j == 0 { 0 } else { ages[j - 1] }
 }
 
-// 9, one entry, of the numbers that it is about
+// 9: an entry below the count has an age of 1 to 119 above the one before and an amount of at most 10^9; another is zero
 fn entry_ok(count: u64, j: u64, before: u64, age: u64, amount: u64) -> bool
     ensures { λ b. ⌜ b ≡ entryOk count j before age amount ⌝ }
 {
@@ -86,7 +89,7 @@ fn entry_ok(count: u64, j: u64, before: u64, age: u64, amount: u64) -> bool
     ((j < count) & used) | ((count <= j) & ((age == 0) & (amount == 0)))
 }
 
-// 9, entry `j`
+// 9, of entry `j`
 pub fn overhaul_ok(overhauls: Overhauls, j: usize) -> bool
     requires { ⌜ j < 8 ⌝ }
     ensures { λ b. ⌜ ((o : OptionRecord) → overhauls ≡ overhaulsOf o → b ≡ overhaulOk o j) ⌝ }

@@ -12,6 +12,7 @@ pub record Expense : Type 0 where
   pub inflation : ℤ
   pub ageing : ℕ
 
+-- a payment in the year in which the asset reaches an age
 pub record Overhaul : Type 0 where
   pub age : ℕ
   pub amount : ℕ
@@ -61,7 +62,7 @@ unfoldable pub sheetOf : List ℕ → PlanningSheet
 sheetOf s =
     record { version = u16At s 3; horizon = u16At s 5; rate = u32At s 7; option = λ k. optionAt s (recordStart k) }
 
--- a rate's factor, 1,000,000 + f; 0 where that would be negative, which check 7 refuses
+-- a rate's factor, 1,000,000 + f (`factor-value` shows it); 0 where that would be negative, which check 7 refuses
 unfoldable pub factor : ℤ → ℕ
 factor (pos f) = 1_000_000 + f
 factor (negsuc f) = 1_000_000 - suc f
