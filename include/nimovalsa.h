@@ -82,8 +82,9 @@ static inline unsigned nimovalsa_option(uint64_t answer)
  *   - sheet points to length readable bytes, at any alignment. With length 0
  *     it may be any pointer, also NULL.
  *   - nothing changes those bytes during the call.
- *   - NIMOVALSA_CHECK_STACK bytes of stack are free. This figure is measured
- *     by tests/c/boundary.c and rounded up; it is not proved.
+ *   - NIMOVALSA_CHECK_STACK bytes of stack are free. The call was measured
+ *     to use 1,240 bytes; tests/c/boundary.c measures it again and fails
+ *     above the figure here. It is not proved.
  */
 #define NIMOVALSA_CHECK_STACK 2048
 

@@ -1,14 +1,15 @@
 -- Laws of `Answer.antt`. In order:
---     unless-iff       a row of the table gives 0 exactly when its rule holds and what comes after gives 0
---     answered-iff, orElse-iff, first-iff      an answer has number 0 exactly when no refusal is in it
---     orElse-pass, orElse-stop, first-zero, first-suc, first-found      the first refusal of several
---     answered-some    a number that is not 0 is a refusal
---     unless-le, answered-all, orElse-all, first-all      what holds of every part holds of the first refusal
+--     unless-pass, unless-stop, unless-same, unless-le, unless-iff      a row of the table; it gives 0 exactly when its rule holds and
+--     what comes after gives 0
+--     answered-some, answered-iff      a number that is not 0 is a refusal
+--     orElse-pass, orElse-stop, orElse-iff, first-zero, first-suc, first-found, first-iff      the first refusal of several; there is
+--     none exactly when no part has one
+--     answered-all, orElse-all, first-all      what holds of every part holds of the first refusal
 -- Assumes nothing.
 use Prim.Native.Nat.{ℕ, zero, suc, _+_, _≤_, _<_}
-use mathlib.Core.Path.{_≡_, refl, sym, ap, _∙_}
+use mathlib.Core.Path.{_≡_, refl}
 use mathlib.Core.Bool.{Bool, true, false, false≢true}
-use mathlib.Core.Logic.{_↔_, Iff·trans, Iff·and, Iff·rfl}
+use mathlib.Core.Logic.{_↔_, Iff·trans, Iff·rfl}
 use native.Mathlib.Omega.{arith}
 use native.Mathlib.Nat.{not-suc-le-zero}
 use native.Mathlib.Numerals.{add-one}
@@ -18,13 +19,6 @@ use borrow.Author.Tests.{eqb-true, eqb-false, eq-eqb, ne-eqb}
 use Rattle.checking.specs.Answer.{accepted, refused, answered, _unless_else_, _orElse_, firstBelow}
 use Rattle.checking.specs.declared.Answer.{Answer}
 use Rattle.checking.proofs.TestLaws.{by-test}
-
-pub unless-iff :
-    {rule : Bool} {next : ℕ} {P Q : Type 0} (n : ℕ) → 0 < n → (rule ≡ true) ↔ P → (next ≡ 0) ↔ Q →
-    ((n unless rule else next) ≡ 0) ↔ (P × Q)
-unfolding _unless_else_
-unless-iff {rule = true} n h p q = (λ e. (p .0 refl, q .0 e), λ k. q .1 (k .1))
-unless-iff {rule = false} n h p q = (λ e. absurd (omega arith), λ k. absurd (false≢true (p .1 (k .0))))
 
 -- a row whose rule holds, and one whose rule does not
 pub unless-pass : (n : ℕ) {rule : Bool} (next : ℕ) → rule ≡ true → (n unless rule else next) ≡ next
@@ -38,6 +32,21 @@ unless-stop n next h = rw h
 -- a row, of equal rules and equal rests
 pub unless-same : (n : ℕ) {a b : Bool} {x y : ℕ} → a ≡ b → x ≡ y → (n unless a else x) ≡ (n unless b else y)
 unless-same n p q = λ i. n unless p i else q i
+
+pub unless-le : (n : ℕ) (rule : Bool) (next m : ℕ) → n ≤ m → next ≤ m → (n unless rule else next) ≤ m
+unfolding _unless_else_
+unless-le n true next m h k = k
+unless-le n false next m h k = h
+
+pub unless-iff :
+    {rule : Bool} {next : ℕ} {P Q : Type 0} (n : ℕ) → 0 < n → (rule ≡ true) ↔ P → (next ≡ 0) ↔ Q →
+    ((n unless rule else next) ≡ 0) ↔ (P × Q)
+unfolding _unless_else_
+unless-iff {rule = true} n h p q = (λ e. (p .0 refl, q .0 e), λ k. q .1 (k .1))
+unless-iff {rule = false} n h p q = (λ e. absurd (omega arith), λ k. absurd (false≢true (p .1 (k .0))))
+
+pub answered-some : (n k : ℕ) → (n ≡ 0 → ⊥) → answered n k ≡ refused n k
+answered-some n k h = rw (ne-eqb n 0 h)
 
 pub answered-iff : (n k : ℕ) → (answered n k .number ≡ 0) ↔ (n ≡ 0)
 answered-iff zero k = Iff·rfl
@@ -78,14 +87,6 @@ first-iff (suc n) f =
           (λ t. let d = eqb-false k n t in first-iff n f .0 (h .0) k (omega arith)),
       λ h. (first-iff n f .1 (λ k l. h k (omega arith)), h n (omega arith)),
     )
-
-pub answered-some : (n k : ℕ) → (n ≡ 0 → ⊥) → answered n k ≡ refused n k
-answered-some n k h = rw (ne-eqb n 0 h)
-
-pub unless-le : (n : ℕ) (rule : Bool) (next m : ℕ) → n ≤ m → next ≤ m → (n unless rule else next) ≤ m
-unfolding _unless_else_
-unless-le n true next m h k = k
-unless-le n false next m h k = h
 
 -- what holds of an accepted answer and of a refusal holds of whatever is answered
 module _ (P : Answer → Type 0) where

@@ -1,19 +1,17 @@
 -- The check's two loops follow `checked`: one law for a turn of each loop, and one for each way out. Assumes nothing.
 use Prim.Native.Nat.{ℕ, _+_, _≤_, _<_}
-use mathlib.Core.Path.{_≡_, refl, sym, ap, _∙_}
+use mathlib.Core.Path.{_≡_, sym, ap, _∙_}
 use mathlib.Core.List.{List}
 use mathlib.Core.Bool.{true, false}
 use mathlib.Core.Logic.{_↔_}
 use native.Mathlib.Omega.{arith}
-use lib.ListN.{length, getD}
-use Rattle.sheet.specs.Layout.{sheetLength}
+use lib.ListN.{getD}
 use Rattle.sheet.specs.Sheet.{OptionRecord, sheetOf}
 use Rattle.sheet.specs.Parsed.{termsOf, overhaulsOf, parsed}
-use Rattle.sheet.specs.declared.Overhauls.{Overhauls}
 use Rattle.sheet.specs.declared.Terms.{Terms}
 use Rattle.sheet.specs.declared.Sheet.{Sheet}
 use Rattle.sheet.proofs.ParsedLaws.{getD-options}
-use Rattle.checking.specs.Answer.{accepted, refused, answered, _unless_else_, _orElse_, firstBelow}
+use Rattle.checking.specs.Answer.{accepted, refused, _unless_else_, firstBelow}
 use Rattle.checking.specs.Refusals.{overhaulOk, overhaulAnswer, headerNumber, fieldsNumber, optionAnswer, checked}
 use Rattle.checking.specs.Passes.{Passes}
 use Rattle.checking.specs.declared.Answer.{Answer}

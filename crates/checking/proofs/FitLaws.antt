@@ -1,22 +1,21 @@
 -- A sheet that passes the checks gives a parsed sheet that fits (`fit`); before it, the same of a factor, a flow, the overhauls and an
 -- option's terms. Assumes nothing.
-use Prim.Native.Nat.{ℕ, zero, suc, _+_, _*_, _≤_, _<_}
-use mathlib.Core.Path.{_≡_, refl, sym, ap, _∙_}
+use Prim.Native.Nat.{ℕ, zero, suc, _+_, _<_}
+use mathlib.Core.Path.{_≡_, refl, sym, _∙_}
 use mathlib.Core.List.{List}
 use mathlib.Core.Logic.{⊎-elim}
 use native.Mathlib.Omega.{arith}
-use native.Mathlib.Nat.{mul-le-mul, not-suc-le-zero}
+use native.Mathlib.Nat.{not-suc-le-zero}
 use lib.ListN.{getD}
 use lib.Dec.{eqb}
 use lib.IntN.{ℤ, pos, negℤ}
 use borrow.Author.Tests.{leb-true, eqb-true, eqb-false}
 use Rattle.sheet.specs.Sheet.{Expense, OptionRecord, sheetOf, factor}
 use Rattle.sheet.specs.Parsed.{flowOf, overhaulsOf, termsOf, parsed}
-use Rattle.sheet.specs.declared.Terms.{Terms}
 use Rattle.sheet.proofs.FactorLaws.{factor-low, factor-high}
 use Rattle.sheet.proofs.ParsedLaws.{getD-options, investment-ageing}
 use Rattle.checking.specs.Refusals.{ageBefore}
-use Rattle.checking.specs.Passes.{LivesPass, AmountPasses, InflationPasses, AgeingPasses, OptionPasses, Passes}
+use Rattle.checking.specs.Passes.{AmountPasses, InflationPasses, AgeingPasses, OptionPasses, Passes}
 use Rattle.checking.specs.Fit.{GrowFits, FlowFits, OverhaulsFit, TermsFit, Fit}
 use Rattle.checking.proofs.TestLaws.{by-test, leZ-iff}
 use Rattle.checking.proofs.RuleLaws.{entry-age, entry-amount}

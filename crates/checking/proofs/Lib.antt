@@ -1,7 +1,8 @@
--- In reading order: the rules on the parsed terms; tests and answers; what the check's loops do; what passing the checks gives.
-pub mod RuleLaws
+-- In reading order: tests and answers; the rules on the parsed terms, which the functions of `option` cite; which sheets pass; the
+-- range of an answer; what the check's loops do, which `check` cites; and, for the crates above, what passing gives.
 pub mod TestLaws
 pub mod AnswerLaws
+pub mod RuleLaws
 pub mod PassesLaws
 pub mod RangeLaws
 pub mod CheckLaws

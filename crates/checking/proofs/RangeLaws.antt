@@ -5,7 +5,7 @@ use mathlib.Core.List.{List}
 use native.Mathlib.Omega.{arith}
 use lib.Dec.{lit≤}
 use Rattle.sheet.specs.Sheet.{OptionRecord, PlanningSheet, sheetOf}
-use Rattle.checking.specs.Answer.{accepted, refused, firstBelow, InTable}
+use Rattle.checking.specs.Answer.{accepted, refused, InTable}
 use Rattle.checking.specs.Refusals.{overhaulAnswer, headerNumber, fieldsNumber, optionAnswer, checked}
 use Rattle.checking.specs.declared.Answer.{Answer}
 use Rattle.checking.proofs.AnswerLaws.{unless-le, answered-all, orElse-all, first-all}

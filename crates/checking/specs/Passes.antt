@@ -8,7 +8,7 @@ use lib.ListN.{length, getD}
 use lib.IntN.{ℤ, pos, negℤ}
 use lib.Signed.{_≤ℤ_}
 use Rattle.sheet.specs.Layout.{sheetLength}
-use Rattle.sheet.specs.Sheet.{Expense, OptionRecord, PlanningSheet, sheetOf, factor}
+use Rattle.sheet.specs.Sheet.{Expense, OptionRecord, sheetOf, factor}
 use Rattle.checking.specs.Refusals.{ageBefore}
 
 -- 5: lives both 0, which means not offered, or 1 ≤ shortest ≤ longest ≤ 120

@@ -9,7 +9,7 @@ use lib.Dec.{leb, ltb, eqb}
 use lib.IntN.{ℤ, pos, negℤ}
 use lib.Signed.{leZ}
 use Rattle.sheet.specs.Layout.{sheetLength}
-use Rattle.sheet.specs.Sheet.{Expense, Overhaul, OptionRecord, PlanningSheet, sheetOf, factor}
+use Rattle.sheet.specs.Sheet.{Expense, OptionRecord, PlanningSheet, sheetOf, factor}
 use Rattle.checking.specs.Answer.{answered, _unless_else_, _orElse_, firstBelow}
 use Rattle.checking.specs.declared.Answer.{Answer}
 

@@ -3,7 +3,6 @@
 
 ghost use mathlib.Core.Path.{_≡_};
 ghost use Prim.Native.Nat.{ℕ, _+_, _<_, _≤_};
-ghost use mathlib.Core.Bool.{_&&_};
 ghost use lib.IntN.{ℤ};
 ghost use Rattle.sheet.specs.Sheet.{Expense, OptionRecord, factor};
 ghost use Rattle.sheet.specs.Parsed.{listed, flowOf, overhaulsOf, termsOf};

@@ -1,6 +1,6 @@
 -- What a C form returns gives back total, number and option. Assumes nothing.
-use Prim.Native.Nat.{ℕ, _+_, _*_, _/_, _%_}
-use mathlib.Core.Path.{_≡_, refl}
+use Prim.Native.Nat.{ℕ}
+use mathlib.Core.Path.{_≡_}
 use native.Mathlib.Omega.{arith}
 use Rattle.checking.specs.Answer.{InTable}
 use Rattle.checking.specs.declared.Answer.{Answer}
