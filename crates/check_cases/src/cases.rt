@@ -29,6 +29,14 @@ fn set32(name: &[u8], at: usize, value: u64)
     answer(name, &sheet);
 }
 
+// The lives of the option whose record starts at `at` set.
+fn set_lives(name: &[u8], at: usize, shortest: u64, longest: u64)
+    requires { ⌜ at + 4 ≤ 278 ⌝ }
+{
+    let sheet = put16(put16(plain(), at, shortest), at + 2, longest);
+    answer(name, &sheet);
+}
+
 // The first bytes of a sheet alone.
 fn cut(name: &[u8], sheet: &[u8], length: usize) {
     if length <= sheet.len() {
@@ -65,15 +73,12 @@ pub fn header() {
 pub fn lives(at: usize)
     requires { ⌜ at ≤ 189 ⌝ }
 {
-    let both = put16(plain(), at, 1);
-    let whole = put16(both, at + 2, 120);
-    let over = put16(both, at + 2, 121);
-    let falling = put16(put16(plain(), at, 3), at + 2, 2);
-    answer(b"lives 1 to 120", &whole);
-    answer(b"lives 1 to 121", &over);
-    answer(b"lives 3 to 2", &falling);
-    answer(b"lives 1 to 0", &both);
-    set16(b"lives 0 to 1", at + 2, 1);
+    set_lives(b"lives 1 to 120", at, 1, 120);
+    set_lives(b"lives 1 to 121", at, 1, 121);
+    set_lives(b"lives 7 to 7", at, 7, 7);
+    set_lives(b"lives 3 to 2", at, 3, 2);
+    set_lives(b"lives 1 to 0", at, 1, 0);
+    set_lives(b"lives 0 to 1", at, 0, 1);
 }
 
 // 6
@@ -116,19 +121,31 @@ pub fn low_inflations(at: usize)
     set32(b"overhaul f -100,001", at + 36, 4_294_867_295);
 }
 
-// 8, with f 0 and, of maintenance, with r 200,000 and f −100,000
+// 8, with f 0
 pub fn ageings(at: usize)
     requires { ⌜ at ≤ 189 ⌝ }
 {
-    let low = put32(put32(plain(), 7, 200_000), at + 16, 4_294_867_296);
-    let most = put32(low, at + 20, 300_000);
-    let over = put32(low, at + 20, 300_001);
     set32(b"maintenance g 40,000", at + 20, 40_000);
     set32(b"maintenance g 40,001", at + 20, 40_001);
     set32(b"electricity g 40,000", at + 32, 40_000);
     set32(b"electricity g 40,001", at + 32, 40_001);
-    answer(b"maintenance g 300,000, f -100,000, r 200,000", &most);
-    answer(b"maintenance g 300,001, f -100,000, r 200,000", &over);
+}
+
+// 8, with r 200,000 and f −100,000, where the product allows any g up to the limit
+pub fn high_ageings(at: usize)
+    requires { ⌜ at ≤ 189 ⌝ }
+{
+    let base = put32(plain(), 7, 200_000);
+    let maintenance = put32(base, at + 16, 4_294_867_296);
+    let electricity = put32(base, at + 28, 4_294_867_296);
+    let first = put32(maintenance, at + 20, 300_000);
+    let second = put32(maintenance, at + 20, 300_001);
+    let third = put32(electricity, at + 32, 300_000);
+    let fourth = put32(electricity, at + 32, 300_001);
+    answer(b"maintenance f -100,000, g 300,000", &first);
+    answer(b"maintenance f -100,000, g 300,001", &second);
+    answer(b"electricity f -100,000, g 300,000", &third);
+    answer(b"electricity f -100,000, g 300,001", &fourth);
 }
 
 // 9, the count and the unused entries
@@ -147,14 +164,28 @@ pub fn entries(at: usize)
     requires { ⌜ at ≤ 189 ⌝ }
 {
     let one = put8(plain(), at + 40, 1);
+    let first = put16(one, at + 41, 1);
     let last = put16(one, at + 41, 119);
     let late = put16(one, at + 41, 120);
     let large = put32(last, at + 43, 1_000_000_000);
     let over = put32(last, at + 43, 1_000_000_001);
+    answer(b"age 1", &first);
     answer(b"age 119", &last);
     answer(b"age 120", &late);
     answer(b"overhaul 10^9", &large);
     answer(b"overhaul 10^9 + 1", &over);
+}
+
+// 9, all eight entries used, of ages 1 to 8
+pub fn eight(at: usize)
+    requires { ⌜ at ≤ 189 ⌝ }
+{
+    let two = put16(put16(plain(), at + 41, 1), at + 47, 2);
+    let four = put16(put16(two, at + 53, 3), at + 59, 4);
+    let six = put16(put16(four, at + 65, 5), at + 71, 6);
+    let all = put16(put16(six, at + 77, 7), at + 83, 8);
+    let counted = put8(all, at + 40, 8);
+    answer(b"count 8", &counted);
 }
 
 // 9, two used entries

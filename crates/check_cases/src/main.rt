@@ -26,7 +26,9 @@ fn record(at: usize)
     cases::high_inflations(at);
     cases::low_inflations(at);
     cases::ageings(at);
+    cases::high_ageings(at);
     cases::counts(at);
     cases::entries(at);
+    cases::eight(at);
     cases::rising(at);
 }

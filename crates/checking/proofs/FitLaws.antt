@@ -64,7 +64,7 @@ overhauls-fit r o h =
       grow = grow-fits r (o .overhaulInflation) (h .overhaulInflation);
       count = few;
       ageLow = λ j l. rw (age j l) (h .used j l .low);
-      ageHigh = λ j l. rw (age j l) (h .used j l .high);
+      ageHigh = λ j l. let late = h .used j l .high in rw (age j l) (omega arith);
       rising = λ i j k l.
           rw (age i (omega arith), age j l) (rising o (o .overhaulCount) (λ n m. h .used n m .rising) i j k l);
       amount = λ j l. rw (entry-amount v o refl j (omega arith)) (h .used j l .amount);

@@ -35,9 +35,9 @@ header-iff s =
         mark = (p .1 .0 .0 .0 .0, p .1 .0 .0 .0 .1, p .1 .0 .0 .1);
         version = p .1 .0 .1;
         horizon = p .1 .1 .0;
-        rate = p .1 .1 .1 .0;
+        rate = let r = p .1 .1 .1 .0 in omega arith;
       },
-      λ h. (h .long, ((((h .mark .0, h .mark .1), h .mark .2), h .version), (h .horizon, (h .rate, refl)))),
+      λ h. (h .long, ((((h .mark .0, h .mark .1), h .mark .2), h .version), (h .horizon, (omega arith, refl)))),
     )
 
 pub inflation-iff : (r : ℕ) (f : ℤ) → (inflationOk r f ≡ true) ↔ InflationPasses r f
@@ -136,7 +136,7 @@ option-iff p k =
             electricityAgeing = f .1 .1 .1 .0 .1;
             count = f .1 .1 .1 .1 .0;
             used = e .0;
-            unused = e .1;
+            unused = λ j n l. e .1 j n (omega arith);
           },
       λ h. (
         fields .1 (
@@ -149,7 +149,7 @@ option-iff p k =
             ),
           ),
         ),
-        first-iff 8 (overhaulAnswer o k) .1 (overhauls-iff o k (h .count) .1 (h .used, h .unused)),
+        first-iff 8 (overhaulAnswer o k) .1 (overhauls-iff o k (h .count) .1 (h .used, λ j n l. h .unused j n (omega arith))),
       ),
     )
 

@@ -10,6 +10,7 @@ ghost use Rattle.checking.specs.Passes.{Passes};
 ghost use Rattle.nimovalsa.specs.Packed.{numberIn, Returns};
 use checking::Answer;
 
+// The answer as one u64: 2^56 is the first total that does not fit.
 fn pack(a: Answer) -> u64
     requires { ⌜ InTable a × (a .total < 72_057_594_037_927_936) ⌝ }
     ensures { λ r. ⌜ Returns r a ⌝ }
