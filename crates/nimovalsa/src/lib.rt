@@ -4,10 +4,15 @@
 ghost use mathlib.Core.Path.{_≡_};
 ghost use mathlib.Core.Logic.{_↔_};
 ghost use Prim.Native.Nat.{_<_};
+ghost use Rattle.sheet.specs.Sheet.{sheetOf};
 ghost use Rattle.checking.specs.Answer.{InTable};
 ghost use Rattle.checking.specs.Refusals.{checked};
 ghost use Rattle.checking.specs.Passes.{Passes};
-ghost use Rattle.nimovalsa.specs.Packed.{numberIn, Returns};
+ghost use Rattle.costing.specs.Arc.{arcOf};
+ghost use Rattle.costing.specs.Offered.{Offered};
+ghost use Rattle.costing.specs.Costing.{costed};
+ghost use Rattle.costing.specs.Error.{WithinAllowance};
+ghost use Rattle.nimovalsa.specs.Packed.{totalIn, numberIn, Returns};
 use checking::Answer;
 
 // The answer as one u64: 2^56 is the first total that does not fit.
@@ -25,4 +30,14 @@ pub extern "C" fn nimovalsa_check(sheet: &[u8]) -> u64
     ensures accepted { λ r. ⌜ (numberIn r ≡ 0) ↔ Passes (now (sheet .entry)) ⌝ }
 {
     pack(checking::check(sheet))
+}
+
+// Costing an arc: its cost in units, and the number and the option of the refusal table.
+#[no_mangle]
+pub extern "C" fn nimovalsa_cost(sheet: &[u8], option: u64, start: u64, end: u64) -> u64
+    ensures answer { λ r. ⌜ Returns r (costed (now (sheet .entry)) option start end) ⌝ }
+    ensures accepted { λ r. ⌜ (numberIn r ≡ 0) ↔ (Passes (now (sheet .entry)) × Offered (sheetOf (now (sheet .entry))) option start end) ⌝ }
+    ensures near { λ r. ⌜ (numberIn r ≡ 0 → WithinAllowance (arcOf (sheetOf (now (sheet .entry))) option start end) (totalIn r)) ⌝ }
+{
+    pack(costing::cost(sheet, option, start, end))
 }

@@ -1,0 +1,164 @@
+-- An arc's cost against its exact value: they differ by at most the allowance of its years (`arc-error`). In order: every payment of an arc
+-- passes the checks and falls by the horizon; the halves of a unit that the payments of each year give; the two together.
+-- Assumes nothing.
+use Prim.Native.Nat.{ℕ, zero, suc, _+_, _*_, _≤_, _<_}
+use mathlib.Core.Path.{_≡_, refl}
+use mathlib.Core.List.{List, [], _∷_, _++_}
+use mathlib.Core.Bool.{Bool, true, false}
+use native.Mathlib.Nat.{mul-le-mul-left, add-zero, add-suc}
+use native.Mathlib.Omega.{arith}
+use lib.Dec.{ltb, eqb}
+use borrow.Author.Tests.{ltb-true, eqb-true, ne-eqb}
+use Rattle.sheet.specs.declared.Flow.{Flow}
+use Rattle.checking.specs.Fit.{FlowFits}
+use Rattle.checking.proofs.TestLaws.{by-test}
+use Rattle.costing.specs.declared.Kept.{Kept}
+use Rattle.costing.specs.Step.{above, below}
+use Rattle.costing.specs.Payment.{Payment, year, total}
+use Rattle.costing.specs.Exact.{common}
+use Rattle.costing.specs.Arc.{Arc, once, inYear, investment, maintenance, electricity, ageOf, overhaul, forEach, when}
+use Rattle.costing.specs.Arc.{overhaulsBelow, paid, payments, cost, exactCost}
+use Rattle.costing.specs.Walk.{overhaulsAt, added, walked}
+use Rattle.costing.specs.Error.{allowance, WithinAllowance}
+use Rattle.costing.specs.Fit.{KeptFits}
+use Rattle.costing.proofs.SumLaws.{forEach-zero, forEach-suc, forEach-none, when-true, when-false}
+use Rattle.costing.proofs.SumLaws.{added-total, walked-zero, walked-suc, walked-paid, paid-zero}
+use Rattle.costing.proofs.PaymentError.{halves, Sound, Apart, Every, total-error}
+
+-- an arc of an option that passes the checks, by the horizon
+pub record ArcFits (a : Arc) : Type 0 where
+  pub kept : KeptFits (a .kept)
+  pub inside : a .kept .from + a .years ≤ a .horizon
+
+module _ (S : Payment → Type 0) where
+  every-append : (ps qs : List Payment) → Every S ps → Every S qs → Every S (ps ++ qs)
+  every-append [] qs h k = k
+  every-append (p ∷ ps) qs h k = (h .0, every-append ps qs (h .1) k)
+
+  every-forEach : (n : ℕ) (f : ℕ → List Payment) → ((j : ℕ) → j < n → Every S (f j)) → Every S (forEach n f)
+  unfolding forEach
+  every-forEach zero f h = tt
+  every-forEach (suc n) f h = every-append (forEach n f) (f n) (every-forEach n f (λ j l. h j (omega arith))) (h n (omega arith))
+
+  every-when : (test : Bool) (p : Payment) → (test ≡ true → S p) → Every S (when test p)
+  unfolding when
+  every-when true p h = (h refl, tt)
+  every-when false p h = tt
+
+module _ (horizon discount : ℕ) (positive : 0 < discount) where
+  once-sound : (amount grow y : ℕ) → grow ≤ discount → y ≤ horizon → Sound horizon discount (once amount grow y)
+  unfolding once year
+  once-sound amount grow y grown h = omega arith
+
+  inYear-sound : (w : Flow) → FlowFits discount w → (t k : ℕ) → t + k ≤ horizon → Sound horizon discount (inYear w t k)
+  unfolding inYear year
+  inYear-sound w fits t k h = omega arith
+
+  -- the first n years of a flow
+  flow-sound :
+      (w : Flow) → FlowFits discount w → (t n : ℕ) → t + n ≤ horizon
+      → Every (Sound horizon discount) (forEach n (λ k. inYear w t (suc k) ∷ []))
+  flow-sound w fits t n h = every-forEach _ n _ (λ k l. (inYear-sound w fits t (suc k) (omega arith), tt))
+
+module _ (horizon : ℕ) (k : Kept) (ok : KeptFits k) where
+  discount-positive : 0 < k .discount
+  discount-positive = omega arith
+
+  overhauls-sound : (n : ℕ) → k .from + n ≤ horizon → Every (Sound horizon (k .discount)) (overhaulsBelow k n)
+  unfolding overhaulsBelow overhaul
+  overhauls-sound n h =
+      every-forEach _ (k .terms .overhauls .count) _ (λ j l.
+      every-when _ (ltb (ageOf k j) n) _ (λ t.
+      let younger = ltb-true (ageOf k j) n t in
+      once-sound horizon (k .discount) discount-positive _ _ _ (ok .terms .overhauls .grow .high) (omega arith)))
+
+  paid-sound : (n : ℕ) → k .from + n ≤ horizon → Every (Sound horizon (k .discount)) (paid k n)
+  unfolding paid investment maintenance electricity
+  paid-sound zero h = tt
+  paid-sound (suc n) h =
+      let flow = flow-sound horizon (k .discount) discount-positive in (
+        once-sound horizon (k .discount) discount-positive _ _ (k .from) (ok .terms .investment .grow .high) (omega arith),
+        every-append _ (overhaulsBelow k (suc n) ++ forEach (suc n) (λ j. maintenance k (suc j) ∷ [])) _
+            (every-append _ (overhaulsBelow k (suc n)) _ (overhauls-sound (suc n) h)
+            (flow (k .terms .maintenance) (ok .terms .maintenance) (k .from) (suc n) h))
+            (flow (k .terms .electricity) (ok .terms .electricity) (k .from) (suc n) h),
+      )
+
+-- the i-th overhaul if it has age n
+abbrev atAge : Kept → (n i : ℕ) → List Payment
+atAge k n i = when (eqb (ageOf k i) n) (overhaul k i)
+
+allowance-suc : (y : ℕ) → allowance (suc y) ≡ allowance y + 10 * y + 8
+unfolding allowance
+allowance-suc y = omega arith
+
+module _ (k : Kept) (ok : KeptFits k) where
+  ageOf-rising : (i j : ℕ) → i < j → j < k .terms .overhauls .count → ageOf k i < ageOf k j
+  unfolding ageOf
+  ageOf-rising = ok .terms .overhauls .rising
+
+  overhaul-halves : (i : ℕ) → halves (overhaul k i) ≡ k .from + ageOf k i
+  unfolding overhaul once halves
+  overhaul-halves i = omega arith
+
+  -- before an overhaul of age n there is no other of that age
+  atAge-before : (n i : ℕ) → i < k .terms .overhauls .count → ageOf k i ≡ n → total halves (forEach i (atAge k n)) ≡ 0
+  atAge-before n i l e =
+      forEach-none halves i (atAge k n) (λ j m.
+      let younger = ageOf-rising j i m l in
+      rw (ne-eqb (ageOf k j) n (λ d. omega arith)) (when-false halves (overhaul k j)))
+
+  -- so at most one of the first i overhauls has age n
+  atAge-halves : (n i : ℕ) → i ≤ k .terms .overhauls .count → total halves (forEach i (atAge k n)) ≤ k .from + n
+  atAge-halves n zero l = rw (forEach-zero halves) (omega arith)
+  atAge-halves n (suc i) l =
+      rw (forEach-suc halves)
+      (by-test (eqb (ageOf k i) n)
+      (λ t.
+      let e = eqb-true (ageOf k i) n t in
+      rw (atAge-before n i l e, t, when-true halves, overhaul-halves i) (omega arith))
+      (λ t. rw (t, when-false halves) (omega (arith, atAge-halves n i (omega arith)))))
+
+  overhaulsAt-halves : (n : ℕ) → total halves (overhaulsAt k n) ≤ k .from + n
+  unfolding overhaulsAt
+  overhaulsAt-halves n = atAge-halves n (k .terms .overhauls .count) (omega arith)
+
+  -- What year n adds: one overhaul at most, and two flows. From a start t these give 3t + 5n + 4; the allowance has room for 4t.
+  added-halves : (n : ℕ) → total halves (added k n) ≤ 4 * k .from + 5 * n + 4
+  unfolding maintenance electricity inYear halves
+  added-halves n = rw (added-total halves) (omega (arith, overhaulsAt-halves n))
+
+  -- by induction over the years
+  walked-halves : (n : ℕ) → 2 * total halves (walked k (suc n)) + allowance (k .from) ≤ allowance (k .from + suc n)
+  walked-halves zero =
+      rw (walked-suc halves, walked-zero halves, add-suc (k .from) 0, add-zero (k .from), allowance-suc)
+      (unfold investment once halves in omega (arith, added-halves 0))
+  walked-halves (suc n) =
+      rw (walked-suc halves, add-suc (k .from) (suc n), allowance-suc (k .from + suc n))
+      (omega (arith, walked-halves n, added-halves (suc n)))
+
+  paid-halves : (n : ℕ) → 2 * total halves (paid k n) + allowance (k .from) ≤ allowance (k .from + n)
+  paid-halves zero = rw (paid-zero halves, add-zero (k .from)) (omega arith)
+  paid-halves (suc n) = rw (walked-paid halves) (walked-halves n)
+
+-- units against e / D: four times the difference is at most B − A, both ways
+pub record Between (units e D A B : ℕ) : Type 0 where
+  pub high : 4 * (units * D) + above * (A * D) ≤ 4 * e + above * (B * D)
+  pub low : 4 * e + below * (A * D) ≤ 4 * (units * D) + below * (B * D)
+
+between-apart : {a e D W A B : ℕ} → Apart a e D W → 2 * W + A ≤ B → Between a e D A B
+between-apart {D = D} c h = omega (arith, mul-le-mul-left (above * D) h, mul-le-mul-left (below * D) h)
+
+pub arc-between :
+    (a : Arc) → ArcFits a
+    → Between (cost a) (exactCost a) (common (a .horizon) (a .kept .discount))
+    (allowance (a .kept .from)) (allowance (a .kept .from + a .years))
+unfolding cost exactCost payments
+arc-between a ok =
+    between-apart
+    (total-error (a .horizon) (a .kept .discount) _ (paid-sound (a .horizon) (a .kept) (ok .kept) (a .years) (ok .inside)))
+    (paid-halves (a .kept) (ok .kept) (a .years))
+
+pub arc-error : (a : Arc) → ArcFits a → WithinAllowance a (cost a)
+unfolding above below
+arc-error a ok = omega (arith, arc-between a ok)

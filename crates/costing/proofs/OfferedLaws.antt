@@ -1,0 +1,64 @@
+-- Laws of `offered`: the test and the facts agree (`offered-iff`), and its two parts. Assumes nothing.
+use Prim.Native.Nat.{ℕ, _-_, _≤_}
+use mathlib.Core.Path.{_≡_}
+use mathlib.Core.Bool.{true, false}
+use mathlib.Core.Logic.{_↔_, _⊎_, inl, inr, ⊎-elim}
+use native.Mathlib.Omega.{arith}
+use lib.Dec.{leb}
+use borrow.Author.Tests.{leb-true, leb-false}
+use Rattle.sheet.specs.Sheet.{PlanningSheet}
+use Rattle.checking.proofs.TestLaws.{by-test, leb-iff, eqb-iff, both-iff, either-iff}
+use Rattle.costing.specs.Offered.{placed, lengthOffered, offered, Offered}
+
+-- what `placed` tests
+abbrev pub Placed : (horizon option start end : ℕ) → Type 0
+Placed horizon option start end = (((option ≤ 2) × (end ≤ horizon)) × (start ≤ end)) × ((1 ≤ option) ⊎ (start ≡ 0))
+
+pub placed-iff : (horizon option start end : ℕ) → (placed horizon option start end ≡ true) ↔ Placed horizon option start end
+placed-iff horizon option start end =
+    both-iff (both-iff (both-iff (leb-iff option 2) (leb-iff end horizon)) (leb-iff start end))
+    (either-iff (leb-iff 1 option) (eqb-iff start 0))
+
+length-iff :
+    (shortest longest option n : ℕ)
+    → (lengthOffered shortest longest option n ≡ true) ↔ ((((1 ≤ n) × (shortest ≤ n)) × (n ≤ longest)) ⊎ ((n ≡ 0) × (option ≤ 1)))
+length-iff shortest longest option n =
+    either-iff (both-iff (both-iff (leb-iff 1 n) (leb-iff shortest n)) (leb-iff n longest))
+    (both-iff (eqb-iff n 0) (leb-iff option 1))
+
+module _ (p : PlanningSheet) (option start end : ℕ) where
+  -- an arc that is not well placed is not offered; of one that is, the length decides
+  pub offered-out : placed (p .horizon) option start end ≡ false → offered p option start end ≡ false
+  unfolding offered
+  offered-out e = rw e
+
+  pub offered-in :
+      placed (p .horizon) option start end ≡ true
+      → offered p option start end ≡ lengthOffered (p .option option .shortest) (p .option option .longest) option (end - start)
+  unfolding offered
+  offered-in e = rw e
+
+  from-zero : (option ≡ 0 → start ≡ 0) → (1 ≤ option) ⊎ (start ≡ 0)
+  from-zero h =
+      by-test (leb 1 option)
+      (λ t. inl (leb-true 1 option t))
+      (λ t. let z = leb-false 1 option t in inr (h (omega arith)))
+
+  pub offered-iff : (offered p option start end ≡ true) ↔ Offered p option start end
+  unfolding offered
+  offered-iff =
+      let o = p .option option in
+      let both = both-iff (placed-iff (p .horizon) option start end) (length-iff (o .shortest) (o .longest) option (end - start)) in (
+        λ e.
+            let h = both .0 e in
+            record {
+              known = h .0 .0 .0 .0;
+              inside = h .0 .0 .0 .1;
+              forward = h .0 .0 .1;
+              maintain = λ z. ⊎-elim (λ l. absurd (omega arith)) (λ y. y) (h .0 .1);
+              lasting = ⊎-elim (λ l. inl (l .0 .0, l .0 .1, l .1)) (λ l. inr l) (h .1);
+            },
+        λ h.
+            both .1
+            ((((h .known, h .inside), h .forward), from-zero (h .maintain)), ⊎-elim (λ l. inl ((l .0, l .1), l .2)) (λ l. inr l) (h .lasting)),
+      )

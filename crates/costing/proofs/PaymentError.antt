@@ -1,0 +1,124 @@
+-- What a payment is worth in units against its exact value, then the same for sums over lists of payments: they differ by at most one half
+-- of a unit for each plain step and two for each step in service. Between the two: the exact value over the common denominator is whole
+-- (`exact-whole`). Assumes nothing.
+use Prim.Native.Nat.{ℕ, zero, suc, _+_, _-_, _*_, _^_, _≤_, _<_, _∣_}
+use mathlib.Core.Path.{_≡_}
+use mathlib.Core.List.{List, [], _∷_}
+use native.Mathlib.Nat.{mul-le-mul-left, mul-le-mul-right, mul-assoc, mul-suc, mul-mul-mul-comm, add-zero, add-suc, pow-suc}
+use native.Mathlib.Nat.{one-dvd, dvd-refl, dvd-trans, dvd-mul-left, mul-dvd-mul-left, mul-dvd-mul-right, div-mul-cancel}
+use native.Mathlib.Omega.{arith}
+use lib.Pow.{pow-add}
+use Rattle.costing.specs.Step.{above, below, repeated}
+use Rattle.costing.specs.Payment.{Payment, year, rounded, total}
+use Rattle.costing.specs.Exact.{Fraction, scaled, exactPlain, exactInService, unrounded, common, exact}
+use Rattle.costing.proofs.NearLaws.{Most, NearBy, near-start, near-weaken}
+use Rattle.costing.proofs.StepError.{Adds, plain-halves, inService-halves}
+
+-- the halves of a unit by which a payment's rounded and exact values may differ: one for each plain step, two for each step in service
+unfoldable pub halves : Payment → ℕ
+halves p = p .plainly + 2 * p .served
+
+-- what the checks give of a payment's factors
+pub record Rates (discount : ℕ) (p : Payment) : Type 0 where
+  pub positive : 0 < discount
+  pub grown : p .grow ≤ discount
+  pub product : p .grow * p .age ≤ 1_000_000 * discount
+
+-- k steps add k times what one adds
+repeated-adds :
+    (h : ℕ) (step : ℕ → ℕ) (exactStep : Fraction → Fraction) → Adds h step exactStep
+    → (k : ℕ) → Adds (h * k) (repeated k step) (repeated k exactStep)
+unfolding repeated
+repeated-adds h step exactStep one zero a x w c = near-weaken (mul-le-mul-right (x .denominator) (omega arith)) c
+repeated-adds h step exactStep one (suc k) a x w c =
+    near-weaken (mul-le-mul-right _ (omega arith)) (one _ _ (w + h * k) (repeated-adds h step exactStep one k a x w c))
+
+-- a payment after p plain steps and s in service: at most p + 2s halves
+pub payment-error : (discount : ℕ) (p : Payment) → Rates discount p → NearBy (rounded discount p) (unrounded discount p) (halves p)
+unfolding rounded unrounded halves
+payment-error discount p ok =
+    let plainly = repeated-adds 1 _ _ (plain-halves (p .grow) discount (ok .positive) (ok .grown)) (p .plainly) in
+    let served = repeated-adds 2 _ _ (inService-halves (p .grow) (p .age) discount (ok .positive) (ok .grown) (ok .product)) (p .served) in
+    near-weaken (mul-le-mul-right _ (omega arith)) (served _ _ _ (plainly _ _ 0 (near-start (p .amount * 10_000))))
+
+common-suc : (n discount : ℕ) → common (suc n) discount ≡ common n discount * (1_000_000 * discount)
+unfolding common
+common-suc n discount = rw (mul-suc 6 n, pow-add 10 (6 * n) 6, pow-suc discount) (mul-mul-mul-comm (10 ^ (6 * n)) _ _ discount)
+
+-- k steps, each of which multiplies the denominator by a divisor of 10^6 × discount
+repeated-divides :
+    (discount : ℕ) (step : Fraction → Fraction) → ((x : Fraction) → step x .denominator ∣ x .denominator * (1_000_000 * discount))
+    → (k n : ℕ) (x : Fraction) → x .denominator ∣ common n discount → repeated k step x .denominator ∣ common (n + k) discount
+unfolding repeated
+repeated-divides discount step one zero n x h = rw (add-zero n) h
+repeated-divides discount step one (suc k) n x h =
+    rw (add-suc n k, common-suc)
+    (dvd-trans _ (one (repeated k step x)) (mul-dvd-mul-right _ (repeated-divides discount step one k n x h) (1_000_000 * discount)))
+
+plain-divides : (grow discount : ℕ) (x : Fraction) → exactPlain grow discount x .denominator ∣ x .denominator * (1_000_000 * discount)
+unfolding exactPlain scaled
+plain-divides grow discount x = mul-dvd-mul-left discount (x .denominator) (dvd-mul-left discount 1_000_000)
+
+inService-divides :
+    (grow age discount : ℕ) (x : Fraction) → exactInService grow age discount x .denominator ∣ x .denominator * (1_000_000 * discount)
+unfolding exactInService exactPlain scaled
+inService-divides grow age discount x = rw mul-assoc (dvd-refl _)
+
+-- counted from the years between the payment and the horizon: each step of the payment adds a year
+unrounded-divides : (horizon discount : ℕ) (p : Payment) → year p ≤ horizon → unrounded discount p .denominator ∣ common horizon discount
+unfolding unrounded year
+unrounded-divides horizon discount p h =
+    let plainly = exactPlain (p .grow) discount in
+    let served = exactInService (p .grow) (p .age) discount in
+    let left = horizon - (p .plainly + p .served) in
+    let start : Fraction = record { numerator = p .amount * 10_000; denominator = 1 } in
+    let moved = repeated-divides discount plainly (plain-divides (p .grow) discount) (p .plainly) left start (one-dvd _) in
+    let all : left + p .plainly + p .served ≡ horizon = omega arith in
+    rw all at
+    (repeated-divides discount served (inService-divides (p .grow) (p .age) discount) (p .served) (left + p .plainly)
+    (repeated (p .plainly) plainly start) moved)
+
+-- the exact value over the common denominator is the fraction
+pub exact-whole :
+    (horizon discount : ℕ) (p : Payment) → year p ≤ horizon
+    → exact horizon discount p * unrounded discount p .denominator ≡ unrounded discount p .numerator * common horizon discount
+unfolding exact
+exact-whole horizon discount p h = rw (mul-assoc, div-mul-cancel _ (unrounded-divides horizon discount p h))
+
+-- a lies at most W halves of a unit from e / D
+pub record Apart (a e D W : ℕ) : Type 0 where
+  pub high : Most above (a * D) e (W * D)
+  pub low : Most below e (a * D) (W * D)
+
+-- from a fraction to a multiple of its denominator
+apart-near : {a w : ℕ} {x : Fraction} (q D : ℕ) → q * x .denominator ≡ D → NearBy a x w → Apart a (x .numerator * q) D w
+apart-near q D e c = rw (← e) (omega (arith, mul-le-mul-left q (c .high), mul-le-mul-left q (c .low)))
+
+apart-add : {a b e f D U W : ℕ} → Apart a e D U → Apart b f D W → Apart (a + b) (e + f) D (U + W)
+apart-add c d = omega arith
+
+-- both values over the common denominator
+pub payment-over :
+    (horizon discount : ℕ) (p : Payment) → Rates discount p → year p ≤ horizon
+    → Apart (rounded discount p) (exact horizon discount p) (common horizon discount) (halves p)
+unfolding exact
+payment-over horizon discount p ok h =
+    apart-near _ _ (div-mul-cancel _ (unrounded-divides horizon discount p h)) (payment-error discount p ok)
+
+-- a payment that falls by the horizon, with factors that pass the checks
+pub record Sound (horizon discount : ℕ) (p : Payment) : Type 0 where
+  pub rates : Rates discount p
+  pub by : year p ≤ horizon
+
+-- each payment of a list
+abbrev pub Every : (Payment → Type 0) → List Payment → Type 0
+Every S [] = Unit {0}
+Every S (p ∷ ps) = S p × Every S ps
+
+pub total-error :
+    (horizon discount : ℕ) (ps : List Payment) → Every (Sound horizon discount) ps
+    → Apart (total (rounded discount) ps) (total (exact horizon discount) ps) (common horizon discount) (total halves ps)
+unfolding total
+total-error horizon discount [] ok = omega arith
+total-error horizon discount (p ∷ ps) ok =
+    apart-add (payment-over horizon discount p (ok .0 .rates) (ok .0 .by)) (total-error horizon discount ps (ok .1))

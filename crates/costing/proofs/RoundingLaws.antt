@@ -1,0 +1,52 @@
+-- Laws of `divided`, for every dividend and every positive divisor. No other file of laws unfolds it, but for the cases.
+-- In order: how far it lies from the quotient, above and below; a bound; what the code computes; order; a whole number of units more.
+-- Assumes nothing.
+use Prim.Native.Nat.{ℕ, _+_, _*_, _/_, _≤_, _<_}
+use mathlib.Core.Path.{_≡_, ap, sym, _∙_}
+use native.Mathlib.Nat.{div-mul-le-self, lt-div-mul-add, div-lt-iff-lt-mul, le-div-iff-mul-le, div-div-eq-div-mul, mul-add-div, le-trans, add-mul-div-right}
+use native.Mathlib.Omega.{arith}
+use Rattle.costing.specs.Step.{divided, above, below}
+
+module _ (n d : ℕ) (positive : 0 < d) where
+  -- at most half a unit above n / d
+  pub divided-above : 2 * (divided n d * d) ≤ 2 * n + above * d
+  unfolding divided above
+  divided-above = omega (arith, div-mul-le-self (2 * n + d) (2 * d))
+
+  -- at most half a unit below n / d
+  pub divided-below : 2 * n ≤ 2 * (divided n d * d) + below * d
+  unfolding divided below
+  divided-below =
+      let p : 0 < 2 * d = omega arith in
+      omega (arith, lt-div-mul-add {a = 2 * n + d} p)
+
+  -- at most a unit above n / d, whichever way it is rounded
+  pub divided-near : divided n d * d ≤ n + d
+  unfolding above
+  divided-near = omega (arith, divided-above)
+
+  pub divided-le : (m : ℕ) → n ≤ m * d → divided n d ≤ m
+  unfolding divided
+  divided-le m h =
+      let p : 0 < 2 * d = omega arith in
+      let q : (2 * n + d) / (2 * d) < m + 1 = div-lt-iff-lt-mul p .1 (omega arith) in
+      omega arith
+
+  -- as the code computes it
+  pub divided-computed : (n + d / 2) / d ≡ divided n d
+  unfolding divided
+  divided-computed = ap (λ (x : ℕ). x / d) (sym (mul-add-div (omega arith) n d)) ∙ div-div-eq-div-mul (2 * n + d) 2 d
+
+pub divided-mono : (n m d : ℕ) → 0 < d → n ≤ m → divided n d ≤ divided m d
+unfolding divided
+divided-mono n m d positive h =
+    let p : 0 < 2 * d = omega arith in
+    le-div-iff-mul-le p .1 (le-trans (div-mul-le-self (2 * n + d) (2 * d)) (omega arith))
+
+-- m whole units more
+pub divided-shift : (n m d : ℕ) → 0 < d → divided (n + m * d) d ≡ divided n d + m
+unfolding divided
+divided-shift n m d positive =
+    let p : 0 < 2 * d = omega arith in
+    let e : 2 * (n + m * d) + d ≡ 2 * n + d + m * (2 * d) = omega arith in
+    rw e (add-mul-div-right (2 * n + d) m p)

@@ -1,0 +1,30 @@
+-- A step in service: both products fit in 64 bits, the second by what the first division gives. Assumes nothing.
+use mathlib.Core.Path.{_∙_}
+use native.Mathlib.Omega.{arith}
+use Rattle.costing.specs.Step.{plain, inService}
+use Rattle.costing.proofs.RoomLaws.{age-room, aged-fits}
+use Rattle.costing.proofs.Units.in_service.Statement.{statement}
+use Rattle.costing.proofs.Units.in_service.Tie as tie
+
+mul-nearest : tie.Need-mul-nearest
+mul-nearest c = omega (arith, age-room _ _ _ _ (c .before .pre))
+
+nearest-requires : tie.Need-nearest-requires
+nearest-requires c κs = (omega arith, omega arith, omega (arith, age-room _ _ _ _ (c .before .pre)))
+
+mul-nearest-2 : tie.Need-mul-nearest-2
+mul-nearest-2 c = rw (c .nearest .ensures) (omega (arith, aged-fits _ _ _ _ (c .before .before .pre)))
+
+nearest-requires-2 : tie.Need-nearest-requires-2
+nearest-requires-2 c κs =
+    let low = c .before .before .pre .plainly .low in
+    let high = c .before .before .pre .plainly .high in
+    rw (c .nearest .ensures) (omega arith, omega arith, omega (arith, aged-fits _ _ _ _ (c .before .before .pre)))
+
+returns : tie.Need-returns
+unfolding inService plain
+returns c = c .nearest2 .ensures ∙ rw (c .before .nearest .ensures)
+
+pub in-service-spec : {M : Type 1} → statement M
+in-service-spec =
+    tie.close (tie.spec mul-nearest nearest-requires mul-nearest-2 nearest-requires-2 returns)

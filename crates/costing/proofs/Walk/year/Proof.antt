@@ -1,0 +1,58 @@
+-- One year more: both running amounts take a step in service, and the sum fits in 64 bits as the cost of an arc of at most 300 years does.
+-- Assumes nothing.
+use Prim.Native.Nat.{_+_, _^_, _<_}
+use mathlib.Core.Path.{ap, _∙_}
+use native.Mathlib.Omega.{arith}
+use borrow.Author.Needs.{needs}
+use Rattle.costing.specs.declared.Walk.{Walk}
+use Rattle.costing.proofs.SizeLaws.{inYear-fits}
+use Rattle.costing.proofs.WalkLaws.{walkAt-maintenance, walkAt-electricity, walk-suc, walk-room}
+use Rattle.costing.proofs.Walk.year.Statement.{statement}
+use Rattle.costing.proofs.Walk.year.Tie as tie
+
+in-service-requires : tie.Need-in-service-requires
+in-service-requires c κs =
+    let s = c .before .before .before .before in
+    let h = s .pre .0 .0 in
+    rw (ap (λ (w : Walk). w .maintenance .0) (s .pre .1 .0) ∙ walkAt-maintenance _ _)
+    (inYear-fits _ _ _ _ (h .low) (h .high) (h .terms .maintenance) (omega arith))
+
+in-service-requires-2 : tie.Need-in-service-requires-2
+in-service-requires-2 c κs =
+    let s = c .before .before .before .before .before in
+    let h = s .pre .0 .0 in
+    rw (ap (λ (w : Walk). w .electricity .0) (s .pre .1 .0) ∙ walkAt-electricity _ _)
+    (inYear-fits _ _ _ _ (h .low) (h .high) (h .terms .electricity) (omega arith))
+
+-- the whole sum
+room :
+    (c : tie.After-in-service2) →
+    let s = c .before .before .before .before .before .before in
+    s .args .self .cost .0 + s .args .due .0 + c .before .in-service .result .0 + c .in-service2 .result .0 < 2 ^ 64
+room c =
+    let s = c .before .before .before .before .before .before in
+    walk-room (s .args .kept) (s .args .self) (s .pre .1 .0) _ _ _ (s .pre .1 .1) (c .before .in-service .ensures)
+    (c .in-service2 .ensures) (s .pre .0 .0) (omega arith)
+
+add-t10 : tie.Need-add-t10
+add-t10 c = omega (arith, room (c .before .before))
+
+add-t11 : tie.Need-add-t11
+add-t11 c = omega (arith, room (c .before .before .before))
+
+add-t12 : tie.Need-add-t12
+add-t12 c = omega (arith, room (c .before .before .before .before))
+
+add-t14 : tie.Need-add-t14
+add-t14 c = search needs
+
+returns : tie.Need-returns
+returns c =
+    let s = c .before .before .before .before .before .before .before .before .before .before .before in
+    walk-suc (s .args .kept) (s .args .self) (s .pre .1 .0) _ _ _ (s .pre .1 .1)
+    (c .before .before .before .before .before .before .in-service .ensures) (c .before .before .before .before .before .in-service2 .ensures)
+
+pub year-spec : {M : Type 1} → statement M
+year-spec =
+    tie.close
+    (tie.spec in-service-requires in-service-requires-2 add-t10 add-t11 add-t12 add-t14 returns)

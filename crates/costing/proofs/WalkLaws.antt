@@ -1,0 +1,155 @@
+-- Where a walk stands before its first year, and one year on; a walk of a year or more has paid its arc. Assumes nothing.
+use Prim.Native.Nat.{ℕ, zero, suc, _+_, _^_, _≤_, _<_}
+use mathlib.Core.Path.{_≡_, refl, ap, sym, _∙_}
+use native.Mathlib.Omega.{arith}
+use native.Mathlib.Numerals.{add-one}
+use native.Mathlib.Nat.{not-suc-le-zero}
+use lib.Dec.{eqb}
+use lib.ListN.{getD}
+use borrow.Author.Tests.{eq-eqb, ne-eqb}
+use Rattle.sheet.specs.declared.Flow.{Flow}
+use Rattle.costing.specs.Step.{inService, repeated}
+use Rattle.costing.specs.Payment.{rounded, total}
+use Rattle.costing.specs.Arc.{once, inYear, investment, maintenance, electricity, ageOf, overhaul, forEach, when, paid}
+use Rattle.costing.specs.Fit.{KeptFits}
+use Rattle.costing.specs.Walk.{overhaulsAt, walked, walkAt}
+use Rattle.costing.specs.declared.Kept.{Kept}
+use Rattle.costing.specs.declared.Walk.{Walk}
+use Rattle.costing.proofs.SumLaws as Sum
+use Rattle.costing.proofs.SizeLaws.{overhauls-le, walked-le}
+
+-- a flow's running amount at the start, and one year in service on
+inYear-zero : (discount : ℕ) (w : Flow) (t : ℕ) → rounded discount (once (w .amount) (w .grow) t) ≡ rounded discount (inYear w t 0)
+unfolding rounded once inYear repeated
+inYear-zero discount w t = refl
+
+inYear-suc :
+    (discount : ℕ) (w : Flow) (t n : ℕ)
+    → inService (w .grow) (w .age) discount (rounded discount (inYear w t n)) ≡ rounded discount (inYear w t (suc n))
+unfolding rounded inYear repeated
+inYear-suc discount w t n = refl
+
+-- a walk of which the figures are given
+abbrev pub walk : (cost maintenance electricity years : ℕ) → Walk
+walk c m e n = record { cost = record { 0 = c }; maintenance = record { 0 = m }; electricity = record { 0 = e }; years = n }
+
+-- the fields of a walk that stands where it should
+pub walkAt-cost : (a : Kept) (n : ℕ) → walkAt a n .cost .0 ≡ total (rounded (a .discount)) (walked a n)
+unfolding walkAt
+walkAt-cost a n = refl
+
+pub walkAt-maintenance : (a : Kept) (n : ℕ) → walkAt a n .maintenance .0 ≡ rounded (a .discount) (inYear (a .terms .maintenance) (a .from) n)
+unfolding walkAt maintenance
+walkAt-maintenance a n = refl
+
+pub walkAt-electricity : (a : Kept) (n : ℕ) → walkAt a n .electricity .0 ≡ rounded (a .discount) (inYear (a .terms .electricity) (a .from) n)
+unfolding walkAt electricity
+walkAt-electricity a n = refl
+
+pub walkAt-years : (a : Kept) (n : ℕ) → walkAt a n .years ≡ n
+unfolding walkAt
+walkAt-years a n = refl
+
+pub walk-zero :
+    (a : Kept) {c m e : ℕ}
+    → c ≡ rounded (a .discount) (once (a .terms .investment .amount) (a .terms .investment .grow) (a .from))
+    → m ≡ rounded (a .discount) (once (a .terms .maintenance .amount) (a .terms .maintenance .grow) (a .from))
+    → e ≡ rounded (a .discount) (once (a .terms .electricity .amount) (a .terms .electricity .grow) (a .from))
+    → walk c m e 0 ≡ walkAt a 0
+unfolding walkAt investment maintenance electricity
+walk-zero a p q s =
+    let p' = p ∙ sym (Sum.walked-zero (rounded (a .discount)) a) in
+    let q' = q ∙ inYear-zero (a .discount) (a .terms .maintenance) (a .from) in
+    let s' = s ∙ inYear-zero (a .discount) (a .terms .electricity) (a .from) in
+    λ i. walk (p' i) (q' i) (s' i) 0
+
+module _ (a : Kept) (w : Walk) (stands : w ≡ walkAt a (w .years)) (due m e : ℕ)
+    (falls : due ≡ total (rounded (a .discount)) (overhaulsAt a (w .years)))
+    (serves : m ≡ inService (a .terms .maintenance .grow) (a .terms .maintenance .age) (a .discount) (w .maintenance .0))
+    (powers : e ≡ inService (a .terms .electricity .grow) (a .terms .electricity .age) (a .discount) (w .electricity .0)) where
+  next-maintenance : m ≡ rounded (a .discount) (maintenance a (suc (w .years)))
+  unfolding maintenance
+  next-maintenance =
+      let v = a .terms .maintenance in
+      let now = ap (λ (x : Walk). x .maintenance .0) stands ∙ walkAt-maintenance a (w .years) in
+      serves ∙ ap (inService (v .grow) (v .age) (a .discount)) now ∙ inYear-suc (a .discount) v (a .from) (w .years)
+
+  next-electricity : e ≡ rounded (a .discount) (electricity a (suc (w .years)))
+  unfolding electricity
+  next-electricity =
+      let v = a .terms .electricity in
+      let now = ap (λ (x : Walk). x .electricity .0) stands ∙ walkAt-electricity a (w .years) in
+      powers ∙ ap (inService (v .grow) (v .age) (a .discount)) now ∙ inYear-suc (a .discount) v (a .from) (w .years)
+
+  next-cost : w .cost .0 + due + m + e ≡ total (rounded (a .discount)) (walked a (suc (w .years)))
+  next-cost =
+      let now : w .cost .0 ≡ total (rounded (a .discount)) (walked a (w .years)) =
+      ap (λ (x : Walk). x .cost .0) stands ∙ walkAt-cost a (w .years) in
+      rw (
+        Sum.walked-suc (rounded (a .discount)) a (w .years),
+        Sum.added-total (rounded (a .discount)) a (w .years),
+        ← now,
+        ← falls,
+        ← next-maintenance,
+        ← next-electricity,
+      )
+      (omega arith)
+
+  -- one year on
+  pub walk-suc : walk (w .cost .0 + due + m + e) m e (w .years + 1) ≡ walkAt a (w .years + 1)
+  unfolding walkAt
+  walk-suc = rw (add-one (w .years)) (λ i. walk (next-cost i) (next-maintenance i) (next-electricity i) (suc (w .years)))
+
+  -- the sum leaves room, so its parts do
+  pub walk-room : KeptFits a → w .years < 300 → w .cost .0 + due + m + e < 2 ^ 64
+  walk-room h l = let room = walked-le a h (suc (w .years)) (omega arith) in rw next-cost (omega arith)
+
+-- a walk of a year or more has paid its arc
+pub walk-paid : (a : Kept) (w : Walk) (n : ℕ) → w ≡ walkAt a n → 0 < n → w .cost .0 ≡ total (rounded (a .discount)) (paid a n)
+walk-paid a w zero stands l = absurd (not-suc-le-zero l)
+walk-paid a w (suc n) stands l =
+    ap (λ (x : Walk). x .cost .0) stands ∙ walkAt-cost a (suc n) ∙ sym (Sum.walked-paid (rounded (a .discount)) a n)
+
+-- a walk that stands after n years has n years
+pub walk-years : (a : Kept) (w : Walk) (n : ℕ) → w ≡ walkAt a n → w .years ≡ n
+walk-years a w n stands = ap (λ (x : Walk). x .years) stands ∙ walkAt-years a n
+
+pub walk-stands : (a : Kept) (w : Walk) (n : ℕ) → w ≡ walkAt a n → w ≡ walkAt a (w .years)
+walk-stands a w n stands = stands ∙ ap (walkAt a) (sym (walk-years a w n stands))
+
+-- an overhaul of age n costs what its amount paid in year n of the arc does; one of another age costs nothing
+module _ (a : Kept) (j n : ℕ) where
+  pub overhaul-falls :
+      getD (a .terms .overhauls .ages) j 0 ≡ n
+      → rounded (a .discount) (once (getD (a .terms .overhauls .amounts) j 0) (a .terms .overhauls .grow) (a .from + n))
+      ≡ total (rounded (a .discount)) (when (eqb (ageOf a j) n) (overhaul a j))
+  unfolding overhaul ageOf
+  overhaul-falls e =
+      rw (eq-eqb (getD (a .terms .overhauls .ages) j 0) n e, Sum.when-true (rounded (a .discount)))
+      (ap (λ (x : ℕ). rounded (a .discount) (once (getD (a .terms .overhauls .amounts) j 0) (a .terms .overhauls .grow) (a .from + x))) (sym e))
+
+  pub overhaul-waits :
+      (getD (a .terms .overhauls .ages) j 0 ≡ n → ⊥) → 0 ≡ total (rounded (a .discount)) (when (eqb (ageOf a j) n) (overhaul a j))
+  unfolding ageOf
+  overhaul-waits d = rw (ne-eqb (getD (a .terms .overhauls .ages) j 0) n d) (sym (Sum.when-false (rounded (a .discount)) (overhaul a j)))
+
+-- what the first k overhauls cost in year n of the arc
+unfoldable pub dueBy : Kept → (n k : ℕ) → ℕ
+dueBy a n k = total (rounded (a .discount)) (forEach k (λ j. when (eqb (ageOf a j) n) (overhaul a j)))
+
+pub dueBy-zero : (a : Kept) (n : ℕ) → 0 ≡ dueBy a n 0
+unfolding dueBy
+dueBy-zero a n = sym (Sum.forEach-zero (rounded (a .discount)) _)
+
+pub dueBy-suc :
+    (a : Kept) (n k : ℕ) → dueBy a n k + total (rounded (a .discount)) (when (eqb (ageOf a k) n) (overhaul a k)) ≡ dueBy a n (k + 1)
+unfolding dueBy
+dueBy-suc a n k = rw (add-one k) (sym (Sum.forEach-suc (rounded (a .discount)) k _))
+
+pub dueBy-all : (a : Kept) (n : ℕ) → dueBy a n (a .terms .overhauls .count) ≡ total (rounded (a .discount)) (overhaulsAt a n)
+unfolding dueBy overhaulsAt
+dueBy-all a n = refl
+
+pub dueBy-lt : (a : Kept) → KeptFits a → (n k : ℕ) → k ≤ a .terms .overhauls .count → dueBy a n k < 2 ^ 64
+unfolding dueBy
+dueBy-lt a h n k l = let few = h .terms .overhauls .count in let room = overhauls-le a h n k l in omega arith

@@ -1,0 +1,105 @@
+-- `cost` is `costed`: refused by the check, or not offered, or the cost of the arc. Assumes nothing.
+use mathlib.Core.Path.{_≡_, sym, subst, ap, _∙_}
+use mathlib.Core.Bool.{true}
+use native.Mathlib.Omega.{arith}
+use borrow.Author.Needs.{needs}
+use borrow.Author.Tests.{not-true, not-false}
+use Rattle.sheet.specs.Sheet.{sheetOf}
+use Rattle.checking.specs.Answer.{accepted}
+use Rattle.checking.specs.Refusals.{checked}
+use Rattle.checking.specs.Passes.{Passes}
+use Rattle.checking.specs.declared.Answer.{Answer}
+use Rattle.costing.specs.Offered.{offered, Offered}
+use Rattle.costing.specs.Fit.{KeptFits}
+use Rattle.costing.proofs.OfferedLaws.{offered-iff}
+use Rattle.costing.proofs.CostLaws.{kept-read, kept-fits, cost-paid, cost-refused, cost-unoffered, cost-offered, met}
+use Rattle.costing.proofs.cost.Statement.{statement}
+use Rattle.costing.proofs.cost.Tie as tie
+
+check-requires : tie.Need-check-requires
+check-requires c κs = search needs
+
+returns : tie.Need-returns
+returns c = met _ _ _ _ _ (cost-refused _ _ _ _ _ (c .before .before .check .ensures .0) (c .if1 .taken))
+
+-- the sheet passes where the code goes on
+passed : (c : tie.Else1) → checked (c .before .before .before .before .args .sheet .now) .number ≡ 0
+passed c = ap (λ (a : Answer). a .number) (sym (c .before .before .check .ensures .0)) ∙ c .if1 .left
+
+passes : (c : tie.Else1) → Passes (c .before .before .before .before .args .sheet .now)
+passes c = c .before .before .check .ensures .1 .0 (c .if1 .left)
+
+-- and then the arc is offered where the code goes on
+found :
+    (c : tie.Else2) →
+    let a = c .before .before .before .before .before .before .before .args in
+    offered (sheetOf (a .sheet .now)) (a .option) (a .start) (a .end) ≡ true
+found c = sym (c .before .offered .ensures _ (c .before .before .parse .ensures)) ∙ not-false _ (c .if2 .left)
+
+offers :
+    (c : tie.Else2) →
+    let a = c .before .before .before .before .before .before .before .args in
+    Offered (sheetOf (a .sheet .now)) (a .option) (a .start) (a .end)
+offers c = offered-iff _ _ _ _ .0 (found c)
+
+parse-requires : tie.Need-parse-requires
+parse-requires c κs = passes c .header .long
+
+offered-requires : tie.Need-offered-requires
+offered-requires c κs = search needs
+
+refused-requires : tie.Need-refused-requires
+refused-requires c κs = search needs
+
+returns-2 : tie.Need-returns-2
+returns-2 c =
+    let d = c .before .before in
+    let out = sym (d .offered .ensures _ (d .before .parse .ensures)) ∙ not-true _ (c .before .if2 .taken) in
+    met _ _ _ _ _ (c .refused .ensures ∙ cost-unoffered _ _ _ _ (passed (d .before .before)) out)
+
+mul-t12 : tie.Need-mul-t12
+mul-t12 c = let known = offers c .known in omega arith
+
+element-copy-out-t15 : tie.Need-element-copy-out-t15
+element-copy-out-t15 c = let known = offers c .known in omega arith
+
+sub-cost : tie.Need-sub-cost
+sub-cost c = offers (c .before) .forward
+
+cost-requires : tie.Need-cost-requires
+cost-requires c κs =
+    let d = c .before .before .before in
+    let o = offers (c .before) in
+    let known = o .known in
+    let inside = o .inside in
+    let h = passes (d .before) in
+    let horizon = h .header .horizon .1 in
+    (subst KeptFits (sym (kept-read _ _ _ _ _ _ (d .parse .ensures) (omega arith))) (kept-fits _ _ _ _ h o), omega arith)
+
+accepted-requires : tie.Need-accepted-requires
+accepted-requires c κs = search needs
+
+returns-3 : tie.Need-returns-3
+returns-3 c =
+    let d = c .before .before .before in
+    let e = d .before .before in
+    let known = offers d .known in
+    let units = c .before .cost .ensures ∙ cost-paid _ _ _ _ _ (kept-read _ _ _ _ _ _ (e .parse .ensures) (omega arith)) in
+    met _ _ _ _ _ (c .accepted .ensures ∙ ap accepted units ∙ cost-offered _ _ _ _ (passed (e .before)) (found d))
+
+pub cost-spec : {M : Type 1} → statement M
+cost-spec =
+    tie.close
+    (tie.spec
+    check-requires
+    returns
+    parse-requires
+    offered-requires
+    refused-requires
+    returns-2
+    mul-t12
+    element-copy-out-t15
+    sub-cost
+    cost-requires
+    accepted-requires
+    returns-3)

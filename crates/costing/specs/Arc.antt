@@ -1,0 +1,86 @@
+-- What an arc pays and what it costs: document 01, 'What an arc costs'. Definitions only.
+use Prim.Native.Nat.{ℕ, zero, suc, _+_, _-_}
+use mathlib.Core.List.{List, [], _∷_, _++_}
+use mathlib.Core.Bool.{Bool, cond}
+use lib.Dec.{ltb}
+use lib.ListN.{getD}
+use Rattle.sheet.specs.Sheet.{PlanningSheet}
+use Rattle.sheet.specs.Parsed.{termsOf}
+use Rattle.sheet.specs.declared.Flow.{Flow}
+use Rattle.costing.specs.declared.Kept.{Kept}
+use Rattle.costing.specs.Payment.{Payment, rounded, total}
+use Rattle.costing.specs.Exact.{exact}
+
+-- An arc is an option kept from year t to year t + n. `kept` has the option's terms, the discount factor and t, `years` is n, and `horizon`
+-- is T.
+pub record Arc : Type 0 where
+  pub kept : Kept
+  pub years : ℕ
+  pub horizon : ℕ
+
+-- the arc of a sheet's option from a start to an end
+unfoldable pub arcOf : PlanningSheet → (option start end : ℕ) → Arc
+arcOf p option start end =
+    record {
+      kept = record { terms = termsOf (p .option option); discount = 1_000_000 + p .rate; from = start };
+      years = end - start;
+      horizon = p .horizon;
+    }
+
+-- an amount paid once, in a year
+unfoldable pub once : (amount grow year : ℕ) → Payment
+once amount grow year = record { amount = amount; grow = grow; age = 1_000_000; plainly = year; served = 0 }
+
+-- what a flow pays in its k-th year of service, which began in year t
+unfoldable pub inYear : Flow → (t k : ℕ) → Payment
+inYear w t k = record { amount = w .amount; grow = w .grow; age = w .age; plainly = t; served = k }
+
+-- the investment after t plain steps
+unfoldable pub investment : Kept → Payment
+investment a = once (a .terms .investment .amount) (a .terms .investment .grow) (a .from)
+
+-- maintenance after t plain steps and then k in-service steps; electricity in the same way, with its own f and g
+unfoldable pub maintenance : Kept → ℕ → Payment
+maintenance a k = inYear (a .terms .maintenance) (a .from) k
+
+unfoldable pub electricity : Kept → ℕ → Payment
+electricity a k = inYear (a .terms .electricity) (a .from) k
+
+-- the age of the j-th overhaul, from 0, and the overhaul itself, after t + age plain steps
+unfoldable pub ageOf : Kept → ℕ → ℕ
+ageOf a j = getD (a .terms .overhauls .ages) j 0
+
+unfoldable pub overhaul : Kept → ℕ → Payment
+overhaul a j = once (getD (a .terms .overhauls .amounts) j 0) (a .terms .overhauls .grow) (a .from + ageOf a j)
+
+-- the payments f 0, f 1, .., f (n − 1), each a list
+unfoldable pub forEach : ℕ → (ℕ → List Payment) → List Payment
+forEach zero f = []
+forEach (suc n) f = forEach n f ++ f n
+
+unfoldable pub when : Bool → Payment → List Payment
+when holds p = cond holds (p ∷ []) []
+
+-- each overhaul of age less than n
+unfoldable pub overhaulsBelow : Kept → ℕ → List Payment
+overhaulsBelow a n = forEach (a .terms .overhauls .count) (λ j. when (ltb (ageOf a j) n) (overhaul a j))
+
+-- Length n = 0 costs 0, investment included. For n of 1 or more: the investment; each overhaul of age less than n; for each k from 1 to n
+-- maintenance, and electricity in the same way.
+unfoldable pub paid : Kept → ℕ → List Payment
+paid a zero = []
+paid a (suc n) =
+    investment a
+    ∷ overhaulsBelow a (suc n)
+    ++ forEach (suc n) (λ k. maintenance a (suc k) ∷ [])
+    ++ forEach (suc n) (λ k. electricity a (suc k) ∷ [])
+
+unfoldable pub payments : Arc → List Payment
+payments a = paid (a .kept) (a .years)
+
+-- an arc's cost in units, and its exact value over the common denominator: sums over the same payments
+unfoldable pub cost : Arc → ℕ
+cost a = total (rounded (a .kept .discount)) (payments a)
+
+unfoldable pub exactCost : Arc → ℕ
+exactCost a = total (exact (a .horizon) (a .kept .discount)) (payments a)

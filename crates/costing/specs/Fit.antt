@@ -1,0 +1,25 @@
+-- What the code of the steps asks so that 64 bits suffice. `StepLaws.antt` and `ArcLaws.antt` derive it from the facts of the check.
+-- Definitions only.
+use Prim.Native.Nat.{ℕ, _*_, _≤_}
+use Rattle.checking.specs.Fit.{TermsFit}
+use Rattle.costing.specs.declared.Kept.{Kept}
+
+-- a plain step: the discount is at least 10^6 and the growth at most the discount; the amount leaves room
+pub record PlainFits (grow discount a : ℕ) : Type 0 where
+  pub low : 1_000_000 ≤ discount
+  pub high : discount ≤ 1_200_000
+  pub grown : grow ≤ discount
+  pub room : a ≤ 10_000_000_000_300
+
+-- a step in service: besides, growth and ageing together do not exceed the discount
+pub record ServiceFits (grow age discount a : ℕ) : Type 0 where
+  pub plainly : PlainFits grow discount a
+  pub aged : age ≤ 1_300_000
+  pub product : grow * age ≤ 1_000_000 * discount
+
+-- an option of a sheet that passes the checks, kept from a year up to 300
+pub record KeptFits (a : Kept) : Type 0 where
+  pub low : 1_000_000 ≤ a .discount
+  pub high : a .discount ≤ 1_200_000
+  pub terms : TermsFit (a .discount) (a .terms)
+  pub from : a .from ≤ 300

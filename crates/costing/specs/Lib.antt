@@ -1,0 +1,10 @@
+pub mod Step
+pub mod Payment
+pub mod Exact
+pub mod Arc
+pub mod Offered
+pub mod Costing
+pub mod Error
+pub mod Fit
+pub mod Walk
+pub mod Cases

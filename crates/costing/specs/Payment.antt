@@ -1,0 +1,28 @@
+-- A payment, what it is worth in units, and sums over lists of payments. Definitions only.
+use Prim.Native.Nat.{ℕ, _+_, _*_}
+use mathlib.Core.List.{List, [], _∷_}
+use Rattle.costing.specs.Step.{plain, inService, repeated}
+
+-- an amount in currency units at the price level of year 0, the factors of its rates, and the steps that move it to the year in which it
+-- is paid: first the plain ones, then those in service
+pub record Payment : Type 0 where
+  pub amount : ℕ
+  pub grow : ℕ
+  pub age : ℕ
+  pub plainly : ℕ
+  pub served : ℕ
+
+-- the year in which it is paid
+unfoldable pub year : Payment → ℕ
+year p = p .plainly + p .served
+
+-- its present value: it starts as its amount × 10,000 units and is rounded at each step
+unfoldable pub rounded : (discount : ℕ) → Payment → ℕ
+rounded discount p =
+    repeated (p .served) (inService (p .grow) (p .age) discount)
+    (repeated (p .plainly) (plain (p .grow) discount) (p .amount * 10_000))
+
+-- the sum of a figure over a list of payments
+unfoldable pub total : (Payment → ℕ) → List Payment → ℕ
+total figure [] = 0
+total figure (p ∷ ps) = figure p + total figure ps

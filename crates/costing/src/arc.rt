@@ -1,0 +1,107 @@
+// An arc extended year by year: document 01, 'What an arc costs'.
+
+ghost use mathlib.Core.Path.{_≡_};
+ghost use Prim.Native.Nat.{_+_, _*_, _<_, _≤_};
+ghost use lib.Dec.{eqb};
+ghost use Rattle.costing.specs.Payment.{rounded, total};
+ghost use Rattle.costing.specs.Arc.{once, when, overhaul, ageOf, paid};
+ghost use Rattle.costing.specs.Fit.{PlainFits, KeptFits};
+ghost use Rattle.costing.specs.Walk.{overhaulsAt, walkAt};
+use crate::Kept;
+use crate::Units;
+use crate::Walk;
+
+// The present value of an amount paid once, in a year.
+fn paid_once(amount: u64, grow: u64, discount: u64, year: u64) -> Units
+    requires { ⌜ PlainFits grow discount (amount * 10_000) ⌝ }
+    ensures { λ r. ⌜ r .0 ≡ rounded discount (once amount grow year) ⌝ }
+{
+    Units(amount * 10_000).plain_years(grow, discount, year)
+}
+
+impl Kept {
+    // What overhaul j costs in year n of the arc, from 0: nothing unless its age is n.
+    fn overhaul_at(self, j: usize, n: u64) -> u64
+        requires { ⌜ KeptFits self × (j < self .terms .overhauls .count) × (n ≤ 300) ⌝ }
+        ensures { λ r. ⌜ r ≡ total (rounded (self .discount)) (when (eqb (ageOf self j) n) (overhaul self j)) ⌝ }
+    {
+        let terms = self.terms;
+        let overhauls = terms.overhauls;
+        let ages = overhauls.ages;
+        let amounts = overhauls.amounts;
+        if ages[j] == n {
+            return paid_once(amounts[j], overhauls.grow, self.discount, self.from + n).0;
+        }
+        0
+    }
+
+    // What the overhauls of age n cost.
+    fn overhauls_at(self, n: u64) -> Units
+        requires { ⌜ KeptFits self × (n ≤ 300) ⌝ }
+        ensures { λ r. ⌜ r .0 ≡ total (rounded (self .discount)) (overhaulsAt self n) ⌝ }
+    {
+        let terms = self.terms;
+        let overhauls = terms.overhauls;
+        let count = overhauls.count as usize;
+        let mut sum = 0;
+        for j in 0..count {
+            sum += self.overhaul_at(j, n);
+        }
+        Units(sum)
+    }
+
+    // The arc before its first year: the investment is paid, and the running amounts stand at the start.
+    pub fn open(self) -> Walk
+        requires { ⌜ KeptFits self ⌝ }
+        ensures { λ r. ⌜ r ≡ walkAt self 0 ⌝ }
+    {
+        let terms = self.terms;
+        let i = terms.investment;
+        let m = terms.maintenance;
+        let e = terms.electricity;
+        Walk {
+            cost: paid_once(i.amount, i.grow, self.discount, self.from),
+            maintenance: paid_once(m.amount, m.grow, self.discount, self.from),
+            electricity: paid_once(e.amount, e.grow, self.discount, self.from),
+            years: 0,
+        }
+    }
+
+    // The cost of an arc of that many years.
+    pub fn cost(self, years: u64) -> Units
+        requires { ⌜ KeptFits self × (years ≤ 300) ⌝ }
+        ensures { λ r. ⌜ r .0 ≡ total (rounded (self .discount)) (paid self years) ⌝ }
+    {
+        if years == 0 {
+            return Units(0);
+        }
+        let mut walk = self.open();
+        for n in 0..years {
+            walk = walk.year(self, self.overhauls_at(n));
+        }
+        walk.cost
+    }
+}
+
+impl Walk {
+    // One year more; `due` is what the overhauls of that year cost.
+    pub fn year(self, kept: Kept, due: Units) -> Walk
+        requires { ⌜ KeptFits kept × (self .years < 300) ⌝ }
+        requires { ⌜ self ≡ walkAt kept (self .years) ⌝ }
+        requires { ⌜ due .0 ≡ total (rounded (kept .discount)) (overhaulsAt kept (self .years)) ⌝ }
+        ensures { λ r. ⌜ r ≡ walkAt kept (self .years + 1) ⌝ }
+    {
+        let terms = kept.terms;
+        let m = terms.maintenance;
+        let e = terms.electricity;
+        let cost = self.cost;
+        let maintenance = self.maintenance.in_service(m.grow, m.age, kept.discount);
+        let electricity = self.electricity.in_service(e.grow, e.age, kept.discount);
+        Walk {
+            cost: Units(cost.0 + due.0 + maintenance.0 + electricity.0),
+            maintenance: maintenance,
+            electricity: electricity,
+            years: self.years + 1,
+        }
+    }
+}

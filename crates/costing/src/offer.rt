@@ -1,0 +1,32 @@
+// Which arcs a sheet offers: row 13 of document 01's refusal table.
+
+ghost use mathlib.Core.Path.{_≡_};
+ghost use Rattle.sheet.specs.Sheet.{PlanningSheet};
+ghost use Rattle.sheet.specs.Parsed.{parsed};
+ghost use Rattle.costing.specs.Offered.{placed, lengthOffered, offered};
+use sheet::Sheet;
+
+// Whether an option is known, the end is not above T nor before the start, and maintain starts in year 0.
+fn placed(horizon: u64, option: u64, start: u64, end: u64) -> bool
+    ensures { λ b. ⌜ b ≡ placed horizon option start end ⌝ }
+{
+    (option <= 2) & (end <= horizon) & (start <= end) & ((1 <= option) | (start == 0))
+}
+
+// Whether a length lies between the shortest and the longest life, or is 0 for maintain or renovate.
+fn length_offered(shortest: u64, longest: u64, option: u64, n: u64) -> bool
+    ensures { λ b. ⌜ b ≡ lengthOffered shortest longest option n ⌝ }
+{
+    ((1 <= n) & (shortest <= n) & (n <= longest)) | ((n == 0) & (option <= 1))
+}
+
+// Whether the sheet offers the arc.
+pub fn offered(sheet: Sheet, option: u64, start: u64, end: u64) -> bool
+    ensures { λ b. ⌜ ((p : PlanningSheet) → sheet ≡ parsed p → b ≡ offered p option start end) ⌝ }
+{
+    if !placed(sheet.horizon, option, start, end) {
+        return false;
+    }
+    let terms = sheet.options[option as usize];
+    length_offered(terms.shortest, terms.longest, option, end - start)
+}

@@ -1,0 +1,46 @@
+// One year's step: document 01, 'One year's step'. A rate is given by its factor in millionths.
+
+ghost use mathlib.Core.Path.{_≡_};
+ghost use Prim.Native.Nat.{_*_, _<_, _≤_};
+ghost use Rattle.costing.specs.Step.{divided, plain, inService, repeated};
+ghost use Rattle.costing.specs.Fit.{PlainFits, ServiceFits};
+use crate::Units;
+
+// n / d to the nearest whole unit, a half going up.
+fn nearest(n: u64, d: u64) -> u64
+    requires { ⌜ (0 < d) × (d ≤ 1_300_000) × (n ≤ 18_000_000_000_000_000_000) ⌝ }
+    ensures { λ r. ⌜ r ≡ divided n d ⌝ }
+{
+    (n + d / 2) / d
+}
+
+impl Units {
+    // One year forward.
+    pub fn plain(self, grow: u64, discount: u64) -> Units
+        requires { ⌜ PlainFits grow discount (self .0) ⌝ }
+        ensures { λ r. ⌜ r .0 ≡ plain grow discount (self .0) ⌝ }
+    {
+        Units(nearest(self.0 * grow, discount))
+    }
+
+    // One year forward in service: the ageing first.
+    pub fn in_service(self, grow: u64, age: u64, discount: u64) -> Units
+        requires { ⌜ ServiceFits grow age discount (self .0) ⌝ }
+        ensures { λ r. ⌜ r .0 ≡ inService grow age discount (self .0) ⌝ }
+    {
+        let aged = nearest(self.0 * age, 1_000_000);
+        Units(nearest(aged * grow, discount))
+    }
+
+    // That many years forward.
+    pub fn plain_years(self, grow: u64, discount: u64, years: u64) -> Units
+        requires { ⌜ PlainFits grow discount (self .0) ⌝ }
+        ensures { λ r. ⌜ r .0 ≡ repeated years (plain grow discount) (self .0) ⌝ }
+    {
+        let mut now = self;
+        for k in 0..years {
+            now = now.plain(grow, discount);
+        }
+        now
+    }
+}
