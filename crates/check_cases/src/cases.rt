@@ -1,11 +1,11 @@
 // The cases, a function a rule or two. `at` is where an option's record starts; the number added to it is a field's place in the record.
 
 ghost use Prim.Native.Nat.{_+_, _≤_};
-use crate::build::plain;
-use crate::build::put8;
-use crate::build::put16;
-use crate::build::put32;
 use crate::show::answer;
+use case_sheets::plain;
+use case_sheets::put8;
+use case_sheets::put16;
+use case_sheets::put32;
 
 // One field of the plain sheet set.
 fn set8(name: &[u8], at: usize, value: u64)

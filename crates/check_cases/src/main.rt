@@ -4,7 +4,6 @@
 
 ghost use Prim.Native.Nat.{_≤_};
 
-mod build;
 mod cases;
 mod show;
 

@@ -31,7 +31,7 @@ use Rattle.costing.specs.Error.{WithinAllowance}
 use Rattle.costing.specs.Fit.{KeptFits}
 use Rattle.costing.specs.declared.Kept.{Kept}
 use Rattle.costing.proofs.SizeLaws.{paid-le}
-use Rattle.costing.proofs.ArcError.{ArcFits, arc-error}
+use Rattle.costing.proofs.ErrorOfArc.{ArcFits, arc-error}
 use Rattle.costing.proofs.OfferedLaws.{offered-iff}
 use Rattle.costing.proofs.ReadLaws.{discount-read, terms-read}
 

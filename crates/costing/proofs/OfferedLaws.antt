@@ -51,10 +51,11 @@ module _ (p : PlanningSheet) (option start end : ℕ) where
       let both = both-iff (placed-iff (p .horizon) option start end) (length-iff (o .shortest) (o .longest) option (end - start)) in (
         λ e.
             let h = both .0 e in
+            let order = h .0 .0 in
             record {
-              known = h .0 .0 .0 .0;
-              inside = h .0 .0 .0 .1;
-              forward = h .0 .0 .1;
+              known = omega arith;
+              inside = omega arith;
+              forward = omega arith;
               maintain = λ z. ⊎-elim (λ l. absurd (omega arith)) (λ y. y) (h .0 .1);
               lasting = ⊎-elim (λ l. inl (l .0 .0, l .0 .1, l .1)) (λ l. inr l) (h .1);
             },

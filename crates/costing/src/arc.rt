@@ -21,18 +21,18 @@ fn paid_once(amount: u64, grow: u64, discount: u64, year: u64) -> Units
 
 impl Kept {
     // What overhaul j costs in year n of the arc, from 0: nothing unless its age is n.
-    fn overhaul_at(self, j: usize, n: u64) -> u64
+    fn overhaul_at(self, j: usize, n: u64) -> Units
         requires { ⌜ KeptFits self × (j < self .terms .overhauls .count) × (n ≤ 300) ⌝ }
-        ensures { λ r. ⌜ r ≡ total (rounded (self .discount)) (when (eqb (ageOf self j) n) (overhaul self j)) ⌝ }
+        ensures { λ r. ⌜ r .0 ≡ total (rounded (self .discount)) (when (eqb (ageOf self j) n) (overhaul self j)) ⌝ }
     {
         let terms = self.terms;
         let overhauls = terms.overhauls;
         let ages = overhauls.ages;
         let amounts = overhauls.amounts;
         if ages[j] == n {
-            return paid_once(amounts[j], overhauls.grow, self.discount, self.from + n).0;
+            return paid_once(amounts[j], overhauls.grow, self.discount, self.from + n);
         }
-        0
+        Units(0)
     }
 
     // What the overhauls of age n cost.
@@ -45,7 +45,7 @@ impl Kept {
         let count = overhauls.count as usize;
         let mut sum = 0;
         for j in 0..count {
-            sum += self.overhaul_at(j, n);
+            sum += self.overhaul_at(j, n).0;
         }
         Units(sum)
     }

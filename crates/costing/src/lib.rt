@@ -48,10 +48,12 @@ pub fn cost(sheet: &[u8], option: u64, start: u64, end: u64) -> Answer
     if !offer::offered(parsed, option, start, end) {
         return checking::refused(13, 3);
     }
+    let terms = parsed.options[option as usize];
     let kept = Kept {
-        terms: parsed.options[option as usize],
+        terms: terms,
         discount: parsed.discount,
         from: start,
     };
-    checking::accepted(kept.cost(end - start).0)
+    let units = kept.cost(end - start);
+    checking::accepted(units.0)
 }

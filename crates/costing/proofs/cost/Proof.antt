@@ -57,11 +57,11 @@ returns-2 c =
     let out = sym (d .offered .ensures _ (d .before .parse .ensures)) ∙ not-true _ (c .before .if2 .taken) in
     met _ _ _ _ _ (c .refused .ensures ∙ cost-unoffered _ _ _ _ (passed (d .before .before)) out)
 
-mul-t12 : tie.Need-mul-t12
-mul-t12 c = let known = offers c .known in omega arith
+mul-terms : tie.Need-mul-terms
+mul-terms c = let known = offers c .known in omega arith
 
-element-copy-out-t15 : tie.Need-element-copy-out-t15
-element-copy-out-t15 c = let known = offers c .known in omega arith
+element-copy-out-terms : tie.Need-element-copy-out-terms
+element-copy-out-terms c = let known = offers c .known in omega arith
 
 sub-cost : tie.Need-sub-cost
 sub-cost c = offers (c .before) .forward
@@ -85,7 +85,7 @@ returns-3 c =
     let e = d .before .before in
     let known = offers d .known in
     let units = c .before .cost .ensures ∙ cost-paid _ _ _ _ _ (kept-read _ _ _ _ _ _ (e .parse .ensures) (omega arith)) in
-    met _ _ _ _ _ (c .accepted .ensures ∙ ap accepted units ∙ cost-offered _ _ _ _ (passed (e .before)) (found d))
+    met _ _ _ _ _ (c .accepted .ensures ∙ ap accepted (omega (arith, units)) ∙ cost-offered _ _ _ _ (passed (e .before)) (found d))
 
 pub cost-spec : {M : Type 1} → statement M
 cost-spec =
@@ -97,8 +97,8 @@ cost-spec =
     offered-requires
     refused-requires
     returns-2
-    mul-t12
-    element-copy-out-t15
+    mul-terms
+    element-copy-out-terms
     sub-cost
     cost-requires
     accepted-requires

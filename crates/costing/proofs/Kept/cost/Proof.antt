@@ -16,6 +16,15 @@ Inv-loop self years walk₀ n₀ walk n = (n ≤ years) × (walk ≡ walkAt self
 abbrev μ-loop : tie.MeasureT-loop
 μ-loop self years walk₀ n₀ walk n = years - n
 
+returns-2 : tie.Need-returns-2 Inv-loop μ-loop
+returns-2 c =
+    let s = c .before .before .before .before .before in
+    let loop = c .before .before .loop in
+    let some = c .before .before .before .before .if1 .left in
+    let all : loop .n ≡ s .args .years = omega arith in
+    walk-paid _ _ _ (loop .inv .1) (omega arith)
+    ∙ ap (λ (n : ℕ). total (rounded (s .args .self .discount)) (paid (s .args .self) n)) all
+
 returns : tie.Need-returns Inv-loop μ-loop
 returns c = rw (c .if1 .taken) (sym (paid-zero _ _))
 
@@ -34,7 +43,7 @@ year-requires c κs =
     let stands = c .before .before .loop .inv .1 in
     let years = walk-years (s .args .self) (c .before .before .loop .walk) _ stands in
     let due : ℕ → ℕ = λ n. total (rounded (s .args .self .discount)) (overhaulsAt (s .args .self) n) in
-    ((s .pre .0, omega arith), (walk-stands _ _ _ stands, c .overhauls-at .ensures ∙ ap due (sym years)))
+    ((s .pre .0, omega arith), (walk-stands _ _ _ stands, c .overhauls-at .ensures ∙ ap due (omega arith)))
 
 add-n : tie.Need-add-n Inv-loop μ-loop
 add-n c = omega arith
@@ -48,15 +57,6 @@ loop-again c =
     let loop = c .before .before .before .loop in
     let years = walk-years (s .args .self) (loop .walk) (loop .n) (loop .inv .1) in
     (omega arith, c .year .ensures ∙ ap (λ (n : ℕ). walkAt (s .args .self) (n + 1)) years)
-
-returns-2 : tie.Need-returns-2 Inv-loop μ-loop
-returns-2 c =
-    let s = c .before .before .before .before .before in
-    let loop = c .before .before .loop in
-    let some = c .before .before .before .before .if1 .left in
-    let all : loop .n ≡ s .args .years = omega arith in
-    walk-paid _ _ _ (loop .inv .1) (omega arith)
-    ∙ ap (λ (n : ℕ). total (rounded (s .args .self .discount)) (paid (s .args .self) n)) all
 
 pub cost-spec : {M : Type 1} → statement M
 cost-spec =

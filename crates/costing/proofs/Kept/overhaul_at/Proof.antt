@@ -1,5 +1,6 @@
 -- An overhaul is paid in the year of its age, and in no other. Assumes nothing.
 use mathlib.Core.Path.{_∙_}
+use native.Mathlib.Omega.{arith}
 use Rattle.costing.proofs.RoomLaws.{amount-fits}
 use Rattle.costing.proofs.WalkLaws.{overhaul-falls, overhaul-waits}
 use borrow.Author.Needs.{needs}
@@ -22,10 +23,16 @@ add-paid-once : tie.Need-add-paid-once
 add-paid-once c = search needs
 
 paid-once-requires : tie.Need-paid-once-requires
-paid-once-requires c κs = let h = c .before .before .before .before .before .before .pre .0 in amount-fits _ _ _ (h .low) (h .high) (h .terms .overhauls .grow .high) (h .terms .overhauls .amount _ (c .before .before .before .before .before .before .pre .1))
+paid-once-requires c κs =
+    let s = c .before .before .before .before .before .before in
+    let h = s .pre .0 in
+    amount-fits _ _ _ (h .low) (h .high) (h .terms .overhauls .grow .high) (h .terms .overhauls .amount _ (s .pre .1))
 
 returns : tie.Need-returns
-returns c = c .paid-once .ensures ∙ overhaul-falls _ _ _ (c .before .before .if1 .taken)
+returns c =
+    let a = c .before .before .before .before .before .before .before .args in
+    let taken = c .before .before .if1 .taken in
+    c .paid-once .ensures ∙ overhaul-falls (a .self) (a .j) (a .n) (omega arith)
 
 returns-2 : tie.Need-returns-2
 returns-2 c = overhaul-waits _ _ _ (c .if1 .left)

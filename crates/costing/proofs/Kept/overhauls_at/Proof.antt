@@ -21,14 +21,14 @@ overhaul-at-requires c κs = (c .before .before .before .before .pre .0, omega a
 sum-next :
     (c : tie.After-overhaul-at Inv-loop μ-loop) →
     let a = c .before .before .before .before .before .args in
-    c .before .before .loop .sum + c .overhaul-at .result ≡ dueBy (a .self) (a .n) (c .before .before .loop .j + 1)
+    c .before .before .loop .sum + c .overhaul-at .result .0 ≡ dueBy (a .self) (a .n) (c .before .before .loop .j + 1)
 sum-next c = rw (c .before .before .loop .inv .1, c .overhaul-at .ensures) (dueBy-suc _ _ _)
 
 add-sum : tie.Need-add-sum Inv-loop μ-loop
 add-sum c =
-    let s = c .before .before .before .before .before in
-    let k = c .before .before .loop .j + 1 in
-    rw (sum-next c) (omega (arith, dueBy-lt (s .args .self) (s .pre .0) (s .args .n) k (omega arith)))
+    let s = c .before .before .before .before .before .before in
+    let k = c .before .before .before .loop .j + 1 in
+    rw (sum-next (c .before)) (omega (arith, dueBy-lt (s .args .self) (s .pre .0) (s .args .n) k (omega arith)))
 
 add-j : tie.Need-add-j Inv-loop μ-loop
 add-j c = omega arith
@@ -37,7 +37,7 @@ loop-less : tie.Need-loop-less Inv-loop μ-loop
 loop-less c = omega arith
 
 loop-again : tie.Need-loop-again Inv-loop μ-loop
-loop-again c = (omega arith, sum-next c)
+loop-again c = (omega arith, sum-next (c .before))
 
 returns : tie.Need-returns Inv-loop μ-loop
 returns c =

@@ -1,10 +1,17 @@
 -- A step in service: both products fit in 64 bits, the second by what the first division gives. Assumes nothing.
-use mathlib.Core.Path.{_∙_}
+use Prim.Native.Nat.{ℕ, _*_}
+use mathlib.Core.Path.{ap, _∙_}
 use native.Mathlib.Omega.{arith}
-use Rattle.costing.specs.Step.{plain, inService}
+use Rattle.costing.specs.Step.{divided, plain, inService}
 use Rattle.costing.proofs.RoomLaws.{age-room, aged-fits}
 use Rattle.costing.proofs.Units.in_service.Statement.{statement}
 use Rattle.costing.proofs.Units.in_service.Tie as tie
+
+returns : tie.Need-returns
+unfolding inService plain
+returns c =
+    let a = c .before .before .before .args in
+    c .nearest2 .ensures ∙ ap (λ (aged : ℕ). divided (aged * a .grow) (a .discount)) (c .before .nearest .ensures)
 
 mul-nearest : tie.Need-mul-nearest
 mul-nearest c = omega (arith, age-room _ _ _ _ (c .before .pre))
@@ -20,10 +27,6 @@ nearest-requires-2 c κs =
     let low = c .before .before .pre .plainly .low in
     let high = c .before .before .pre .plainly .high in
     rw (c .nearest .ensures) (omega arith, omega arith, omega (arith, aged-fits _ _ _ _ (c .before .before .pre)))
-
-returns : tie.Need-returns
-unfolding inService plain
-returns c = c .nearest2 .ensures ∙ rw (c .before .nearest .ensures)
 
 pub in-service-spec : {M : Type 1} → statement M
 in-service-spec =

@@ -10,6 +10,12 @@ use Rattle.costing.proofs.WalkLaws.{walkAt-maintenance, walkAt-electric
 use Rattle.costing.proofs.Walk.year.Statement.{statement}
 use Rattle.costing.proofs.Walk.year.Tie as tie
 
+returns : tie.Need-returns
+returns c =
+    let s = c .before .before .before .before .before .before .before .before .before .before .before in
+    walk-suc (s .args .kept) (s .args .self) (s .pre .1 .0) _ _ _ (s .pre .1 .1)
+    (c .before .before .before .before .before .before .in-service .ensures) (c .before .before .before .before .before .in-service2 .ensures)
+
 in-service-requires : tie.Need-in-service-requires
 in-service-requires c κs =
     let s = c .before .before .before .before in
@@ -45,12 +51,6 @@ add-t12 c = omega (arith, room (c .before .before .before .before))
 
 add-t14 : tie.Need-add-t14
 add-t14 c = search needs
-
-returns : tie.Need-returns
-returns c =
-    let s = c .before .before .before .before .before .before .before .before .before .before .before in
-    walk-suc (s .args .kept) (s .args .self) (s .pre .1 .0) _ _ _ (s .pre .1 .1)
-    (c .before .before .before .before .before .before .in-service .ensures) (c .before .before .before .before .before .in-service2 .ensures)
 
 pub year-spec : {M : Type 1} → statement M
 year-spec =

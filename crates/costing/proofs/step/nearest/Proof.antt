@@ -1,4 +1,5 @@
 -- `nearest` is `divided`: the dividend leaves room for half the divisor. Assumes nothing.
+use native.Mathlib.Omega.{arith}
 use borrow.Author.Needs.{needs}
 use Rattle.costing.proofs.RoundingLaws.{divided-computed}
 use Rattle.costing.proofs.step.nearest.Statement.{statement}
@@ -11,7 +12,7 @@ div-result : tie.Need-div-result
 div-result c = search needs
 
 returns : tie.Need-returns
-returns c = divided-computed (c .args .n) (c .args .d) (c .pre .0)
+returns c = omega (arith, divided-computed (c .args .n) (c .args .d) (c .pre .0))
 
 pub nearest-spec : {M : Type 1} → statement M
 nearest-spec = tie.close (tie.spec add-result div-result returns)

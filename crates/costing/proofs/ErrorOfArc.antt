@@ -23,7 +23,7 @@ use Rattle.costing.specs.Error.{allowance, WithinAllowance}
 use Rattle.costing.specs.Fit.{KeptFits}
 use Rattle.costing.proofs.SumLaws.{forEach-zero, forEach-suc, forEach-none, when-true, when-false}
 use Rattle.costing.proofs.SumLaws.{added-total, walked-zero, walked-suc, walked-paid, paid-zero}
-use Rattle.costing.proofs.PaymentError.{halves, Sound, Apart, Every, total-error}
+use Rattle.costing.proofs.ErrorOfPayment.{halves, Sound, Apart, Every, total-error}
 
 -- an arc of an option that passes the checks, by the horizon
 pub record ArcFits (a : Arc) : Type 0 where

@@ -11,8 +11,8 @@ use lib.Pow.{pow-add}
 use Rattle.costing.specs.Step.{above, below, repeated}
 use Rattle.costing.specs.Payment.{Payment, year, rounded, total}
 use Rattle.costing.specs.Exact.{Fraction, scaled, exactPlain, exactInService, unrounded, common, exact}
-use Rattle.costing.proofs.NearLaws.{Most, NearBy, near-start, near-weaken}
-use Rattle.costing.proofs.StepError.{Adds, plain-halves, inService-halves}
+use Rattle.costing.proofs.ErrorOfRounding.{Most, NearBy, near-start, near-weaken}
+use Rattle.costing.proofs.ErrorOfStep.{Adds, plain-halves, inService-halves}
 
 -- the halves of a unit by which a payment's rounded and exact values may differ: one for each plain step, two for each step in service
 unfoldable pub halves : Payment → ℕ

@@ -1,4 +1,4 @@
-// Sheets made by setting fields.
+// Sheets made by setting fields, for the test programs.
 
 ghost use Prim.Native.Nat.{_+_, _≤_};
 
