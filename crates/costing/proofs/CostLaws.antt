@@ -115,7 +115,8 @@ module _ (s : List ℕ) (option start end : ℕ) where
   unfolding arcOf
   arc-inside l m = omega arith
 
-  arc-fits : Passes s → Offered (sheetOf s) option start end → ArcFits (arcOf (sheetOf s) option start end)
+  -- an arc that a sheet offers, if the sheet passes its checks: what the laws of the error ask
+  pub arc-fits : Passes s → Offered (sheetOf s) option start end → ArcFits (arcOf (sheetOf s) option start end)
   arc-fits h o = record { kept = kept-fits h o; inside = arc-inside (o .forward) (o .inside) }
 
   -- an accepted call answers the arc's cost
