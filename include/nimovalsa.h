@@ -25,7 +25,8 @@
  *   number   0 if the call accepts, else the number of the refusal
  *   option   0, 1 or 2 with refusals 5 to 9; 3 with every other number, 0
  *            included
- *   total    0 with a refusal, and 0 from a call that answers no total
+ *   total    the total or cost; 0 with a refusal, and 0 from a call that
+ *            answers neither
  */
 #ifndef NIMOVALSA_H
 #define NIMOVALSA_H
@@ -83,12 +84,46 @@ static inline unsigned nimovalsa_option(uint64_t answer)
  *     it may be any pointer, also NULL.
  *   - nothing changes those bytes during the call.
  *   - NIMOVALSA_CHECK_STACK bytes of stack are free. The call was measured
- *     to use 1,240 bytes; tests/c/boundary.c measures it again and fails
+ *     to use 1,408 bytes; tests/c/boundary.c measures it again and fails
  *     above the figure here. It is not proved.
  */
 #define NIMOVALSA_CHECK_STACK 2048
 
 uint64_t nimovalsa_check(const uint8_t *sheet, size_t length);
+
+/*
+ * Costs an arc: an option kept from year start to year end. The total is the
+ * arc's cost in units, 10,000 to a currency unit. The number is that of the
+ * first fault, or 0 if there is none. Faults are looked for in the order 1 to
+ * 9, as nimovalsa_check answers them, then:
+ *
+ *  13  option above 2; or end above T or before start; or maintain (option 0)
+ *      not from year 0; or length not offered
+ *
+ * The length is end - start. Length 0 is offered for maintain, from 0 to 0,
+ * and for renovate, in any year up to T, also where both lives are 0. A
+ * length of 1 or more is offered from the option's shortest to its longest
+ * life. option, start and end may be any numbers.
+ *
+ * Length 0 costs 0. A longer arc costs the sum of the investment in year
+ * start, each overhaul of an age less than the length in year start + age,
+ * and maintenance and electricity in every year from start + 1 to end. Each
+ * of these payments is its amount moved forward from year 0 to its year, a
+ * year at a time, by (10^6 + f) / (10^6 + r), to the nearest unit, a half
+ * going up; in the years after start, maintenance and electricity first move
+ * by (10^6 + g) / 10^6, rounded likewise.
+ *
+ * Buffers: as with nimovalsa_check, the sheet is only read, nothing is
+ * written, and nothing is kept between calls.
+ *
+ * Duties of the caller: those of nimovalsa_check, with NIMOVALSA_COST_STACK
+ * bytes of stack. The call was measured to use 3,760; tests/c/boundary.c
+ * measures it again and fails above the figure here. It is not proved.
+ */
+#define NIMOVALSA_COST_STACK 8192
+
+uint64_t nimovalsa_cost(const uint8_t *sheet, size_t length, uint64_t option,
+                        uint64_t start, uint64_t end);
 
 #ifdef __cplusplus
 }

@@ -1,6 +1,7 @@
 /*
- * Calls nimovalsa_check from C on good, damaged, short and long sheets and
- * compares each answer with the refusal table of document 01.
+ * Calls nimovalsa_check and nimovalsa_cost from C on good, damaged, short and
+ * long sheets, costing arcs with and without fault, and compares each answer
+ * with the refusal table and the costs of document 01.
  *
  * Every sheet is passed twice: once ending where an unreadable page begins,
  * once beginning where an unreadable page ends. Its own page is read-only
@@ -14,6 +15,7 @@
  */
 #include <nimovalsa.h>
 
+#include <inttypes.h>
 #include <signal.h>
 #include <stdarg.h>
 #include <stdio.h>
@@ -54,11 +56,18 @@ enum {
 
     OPTIONS = 3,
     NO_OPTION = 3,
+
+    /* answers without a total */
+    ACCEPTED = 0 * 4 + NO_OPTION,
+    REFUSED_LENGTH = 1 * 4 + NO_OPTION,
+    REFUSED_ARC = 13 * 4 + NO_OPTION,
+
     LONGEST_INPUT = 4096,
     STACK_BYTES = 64 * 1024
 };
 
 #define OVERHAUL(entry) (OVERHAULS + OVERHAUL_BYTES * (entry))
+#define COUNT(table) (sizeof(table) / sizeof *(table))
 
 /* ---- failure ---- */
 
@@ -137,9 +146,35 @@ static void allow(struct room room, int access)
     stop_unless(mprotect(room.begin, room.bytes, access) == 0, "mprotect");
 }
 
-/* ---- a call on a painted stack ---- */
+/* ---- the calls ---- */
 
 typedef uint64_t sheet_call(const uint8_t *sheet, size_t length);
+
+struct arc {
+    uint64_t option, start, end;
+};
+
+/* The arc that is costed now. */
+static struct arc arc;
+
+static uint64_t cost_arc(const uint8_t *sheet, size_t length)
+{
+    return nimovalsa_cost(sheet, length, arc.option, arc.start, arc.end);
+}
+
+struct subject {
+    const char *name;
+    sheet_call *call;
+    size_t stack_named; /* by the header */
+    size_t stack_used;  /* the most seen */
+};
+
+static struct subject checking = {"nimovalsa_check", nimovalsa_check,
+                                  NIMOVALSA_CHECK_STACK, 0};
+static struct subject costing = {"nimovalsa_cost", cost_arc,
+                                 NIMOVALSA_COST_STACK, 0};
+
+/* ---- a call on a painted stack ---- */
 
 static struct {
     sheet_call *call;
@@ -206,31 +241,35 @@ static void measure_no_work(void)
 /* ---- one expectation ---- */
 
 static struct room sheet_room; /* a sheet stands in it during the call */
-static size_t stack_of_check;  /* the most seen */
 static unsigned long calls;
 
-static void note_stack(size_t used)
+static void note_stack(struct subject *subject, size_t used)
 {
-    if (used > stack_of_no_work + stack_of_check)
-        stack_of_check = used - stack_of_no_work;
+    if (used > stack_of_no_work + subject->stack_used)
+        subject->stack_used = used - stack_of_no_work;
 }
 
-static void call_and_compare(const uint8_t *sheet, size_t length,
-                             unsigned char paint, unsigned number,
-                             unsigned option)
+static void print_answer(const char *before, uint64_t answer)
 {
-    job.call = nimovalsa_check;
+    fprintf(stderr, "%s number %u option %u total %llu", before,
+            nimovalsa_number(answer), nimovalsa_option(answer),
+            (unsigned long long)nimovalsa_total(answer));
+}
+
+static void call_and_compare(struct subject *subject, const uint8_t *sheet,
+                             size_t length, unsigned char paint,
+                             uint64_t answer)
+{
+    job.call = subject->call;
     job.sheet = sheet;
     job.length = length;
-    note_stack(run_job(paint));
+    note_stack(subject, run_job(paint));
     calls++;
-    if (job.answer != number * 4 + option) {
-        fprintf(stderr,
-                "c boundary: %s: expected number %u option %u total 0, "
-                "got number %u option %u total %llu\n",
-                case_name, number, option, nimovalsa_number(job.answer),
-                nimovalsa_option(job.answer),
-                (unsigned long long)nimovalsa_total(job.answer));
+    if (job.answer != answer) {
+        fprintf(stderr, "c boundary: %s: %s:", case_name, subject->name);
+        print_answer(" expected", answer);
+        print_answer(", got", job.answer);
+        fprintf(stderr, "\n");
         exit(1);
     }
 }
@@ -245,15 +284,40 @@ static const uint8_t *place(const uint8_t *sheet, size_t length,
     return at;
 }
 
-static void expect(const uint8_t *sheet, size_t length, unsigned number,
-                   unsigned option)
+static void expect_answer(struct subject *subject, const uint8_t *sheet,
+                          size_t length, uint64_t answer)
 {
     unsigned char *end = sheet_room.begin + sheet_room.bytes;
 
-    call_and_compare(place(sheet, length, end - length), length, PAINT_AT_END,
-                     number, option);
-    call_and_compare(place(sheet, length, sheet_room.begin), length,
-                     PAINT_AT_START, number, option);
+    call_and_compare(subject, place(sheet, length, end - length), length,
+                     PAINT_AT_END, answer);
+    call_and_compare(subject, place(sheet, length, sheet_room.begin), length,
+                     PAINT_AT_START, answer);
+}
+
+/* Every accepted sheet has this arc, at cost 0. */
+static const struct arc empty_arc = {1, 0, 0};
+
+/* No sheet has these: each meets one condition of refusal 13, in its order. */
+static const struct arc faulty_arcs[] = {
+    {3, 0, 0}, {1, UINT64_MAX, UINT64_MAX}, {1, 1, 0}, {0, 1, 1}, {2, 0, 0},
+};
+
+/* What checking answers. Costing answers the same with the empty arc, and on
+ * a refused sheet with a faulty one too. */
+static void expect(const uint8_t *sheet, size_t length, unsigned number,
+                   unsigned option)
+{
+    uint64_t answer = number * 4 + option;
+
+    expect_answer(&checking, sheet, length, answer);
+    arc = empty_arc;
+    expect_answer(&costing, sheet, length, answer);
+    for (size_t i = 0; i < COUNT(faulty_arcs); i++) {
+        arc = faulty_arcs[i];
+        expect_answer(&costing, sheet, length,
+                      number == 0 ? REFUSED_ARC : answer);
+    }
 }
 
 /* ---- sheets by field ---- */
@@ -346,6 +410,27 @@ static void make_limit_sheet(uint8_t *sheet)
 static void make_empty_sheet(uint8_t *sheet)
 {
     put_head(sheet, 1, 0);
+}
+
+/* Cases 6 to 8 of document 01: only replace is offered. */
+static void make_case_sheet(uint8_t *sheet)
+{
+    uint8_t *record = record_of(sheet, 2);
+
+    put_head(sheet, 3, 40000);
+    put16(record + SHORTEST, 1);
+    put16(record + LONGEST, 2);
+    put32(record + INVESTMENT, 1);
+    put32(record + MAINTENANCE, 1);
+}
+
+static void make_case_sheet_with_overhaul(uint8_t *sheet)
+{
+    uint8_t *record = record_of(sheet, 2);
+
+    make_case_sheet(sheet);
+    put(record + OVERHAUL_COUNT, 1, 1);
+    put_overhaul(record, 0, 1, 1);
 }
 
 /* ---- one field changed ---- */
@@ -464,7 +549,113 @@ static const struct change empty_changes[] = {
     {9, OVERHAUL(0) + AGE, 2, 1, "not offered, unused overhaul with an age"},
 };
 
-#define COUNT(table) (sizeof(table) / sizeof *(table))
+/* ---- arcs ---- */
+
+/* What costing answers. The costs of cases 6 to 8 are document 01's; the
+ * others follow from its rules and were not taken from the library. */
+struct arc_case {
+    struct arc arc;
+    uint64_t answer;
+};
+
+#define BIT(n) (UINT64_C(1) << (n))
+
+/* Case 6; then what the case sheet does not offer. */
+static const struct arc_case case_arcs[] = {
+    {{2, 1, 3}, 7103747},
+    {{0, 0, 1}, REFUSED_ARC},
+    {{1, 1, 2}, REFUSED_ARC},
+    {{2, 0, 3}, REFUSED_ARC},
+};
+
+/* Cases 7 and 8. */
+static const struct arc_case overhaul_arcs[] = {
+    {{2, 1, 3}, 9470467},
+    {{2, 1, 2}, 4828163},
+};
+
+/* On the middle sheet: T 30, lives 2 to 20, overhauls at 5, 10 and 15. */
+static const struct arc_case middle_arcs[] = {
+    {{0, 0, 2}, 16179881475},
+    {{0, 0, 5}, 20777665283},
+    {{0, 0, 6}, 22404322307},
+    {{0, 0, 20}, 38136609283},
+    {{1, 3, 5}, 14383855875},
+    {{1, 10, 30}, 25763725059},
+    {{2, 10, 25}, 22483079683},
+    {{2, 28, 30}, 5395626499},
+
+    /* length 0 */
+    {{0, 0, 0}, ACCEPTED},
+    {{1, 5, 5}, ACCEPTED},
+    {{1, 30, 30}, ACCEPTED},
+    {{2, 0, 0}, REFUSED_ARC},
+    {{2, 30, 30}, REFUSED_ARC},
+
+    /* option above 2; in some the low bits are those of an option */
+    {{3, 0, 2}, REFUSED_ARC},
+    {{4, 0, 2}, REFUSED_ARC},
+    {{255, 0, 2}, REFUSED_ARC},
+    {{256, 0, 2}, REFUSED_ARC},
+    {{257, 5, 5}, REFUSED_ARC},
+    {{258, 28, 30}, REFUSED_ARC},
+    {{BIT(16), 0, 2}, REFUSED_ARC},
+    {{BIT(32), 0, 2}, REFUSED_ARC},
+    {{BIT(32) + 2, 28, 30}, REFUSED_ARC},
+    {{BIT(63), 0, 2}, REFUSED_ARC},
+    {{UINT64_MAX, 0, 2}, REFUSED_ARC},
+
+    /* end above T */
+    {{1, 31, 31}, REFUSED_ARC},
+    {{2, 29, 31}, REFUSED_ARC},
+    {{1, 0, BIT(8) + 2}, REFUSED_ARC},
+    {{2, 0, BIT(16) + 2}, REFUSED_ARC},
+    {{2, 0, BIT(32) + 2}, REFUSED_ARC},
+    {{2, BIT(32), BIT(32) + 2}, REFUSED_ARC},
+    {{1, BIT(63), BIT(63)}, REFUSED_ARC},
+    {{2, BIT(63), BIT(63) + 2}, REFUSED_ARC},
+    {{0, 0, UINT64_MAX}, REFUSED_ARC},
+    {{2, UINT64_MAX - 2, UINT64_MAX}, REFUSED_ARC},
+    {{1, UINT64_MAX, UINT64_MAX}, REFUSED_ARC},
+
+    /* end before start; modulo 2^64, end - start is offered in some */
+    {{2, 3, 2}, REFUSED_ARC},
+    {{1, 30, 0}, REFUSED_ARC},
+    {{2, UINT64_MAX, 1}, REFUSED_ARC},
+    {{2, UINT64_MAX - 1, 0}, REFUSED_ARC},
+    {{1, BIT(63) + 2, 2}, REFUSED_ARC},
+    {{1, BIT(32) + 28, 30}, REFUSED_ARC},
+    {{2, BIT(16) + 28, 30}, REFUSED_ARC},
+
+    /* maintain not from 0 */
+    {{0, 1, 3}, REFUSED_ARC},
+    {{0, 5, 5}, REFUSED_ARC},
+    {{0, 10, 30}, REFUSED_ARC},
+
+    /* lengths beside the lives */
+    {{0, 0, 1}, REFUSED_ARC},
+    {{1, 29, 30}, REFUSED_ARC},
+    {{2, 5, 6}, REFUSED_ARC},
+    {{0, 0, 21}, REFUSED_ARC},
+    {{1, 9, 30}, REFUSED_ARC},
+    {{2, 0, 21}, REFUSED_ARC},
+};
+
+/* On the limit sheet: T 300, lives 1 to 120, overhauls at 112 to 119. */
+static const struct arc_case limit_arcs[] = {
+    {{0, 0, 120}, 213150517516468227},  {{1, 0, 1}, 7552000000000003},
+    {{1, 100, 212}, 2560000000229379},  {{2, 100, 213}, 5120000000231427},
+    {{2, 180, 300}, 23040000000122883}, {{2, 299, 300}, 2560000000001027},
+    {{2, 181, 301}, REFUSED_ARC},       {{2, 179, 300}, REFUSED_ARC},
+};
+
+/* On the empty sheet: T 1, no option is offered. */
+static const struct arc_case empty_arcs[] = {
+    {{0, 0, 0}, ACCEPTED},    {{0, 0, 1}, REFUSED_ARC},
+    {{0, 1, 1}, REFUSED_ARC}, {{1, 0, 0}, ACCEPTED},
+    {{1, 0, 1}, REFUSED_ARC}, {{1, 1, 1}, ACCEPTED},
+    {{2, 0, 0}, REFUSED_ARC}, {{2, 0, 1}, REFUSED_ARC},
+};
 
 static void apply(uint8_t *part, const struct change *change)
 {
@@ -583,16 +774,47 @@ static void test_lengths(void)
         expect(input, longer[i], 1, NO_OPTION);
     }
     name_case("NULL with length 0");
-    call_and_compare(NULL, 0, PAINT_AT_END, 1, NO_OPTION);
+    call_and_compare(&checking, NULL, 0, PAINT_AT_END, REFUSED_LENGTH);
+    arc = empty_arc;
+    call_and_compare(&costing, NULL, 0, PAINT_AT_END, REFUSED_LENGTH);
 }
 
-static void test_stack(void)
+static void test_arcs(make_sheet *make, const char *name,
+                      const struct arc_case *cases, size_t count)
 {
-    if (stack_of_check > NIMOVALSA_CHECK_STACK) {
+    uint8_t sheet[NIMOVALSA_SHEET_BYTES];
+
+    make(sheet);
+    for (size_t i = 0; i < count; i++) {
+        arc = cases[i].arc;
+        name_case("%s, option %" PRIu64 " from %" PRIu64 " to %" PRIu64, name,
+                  arc.option, arc.start, arc.end);
+        expect_answer(&costing, sheet, sizeof sheet, cases[i].answer);
+    }
+}
+
+/* The sheet stands in memory that may be written. */
+static void test_sheet_unchanged(void)
+{
+    const struct arc_case *longest = &limit_arcs[0];
+    uint8_t sheet[NIMOVALSA_SHEET_BYTES], before[NIMOVALSA_SHEET_BYTES];
+
+    name_case("sheet unchanged");
+    make_limit_sheet(sheet);
+    memcpy(before, sheet, sizeof sheet);
+    call_and_compare(&checking, sheet, sizeof sheet, PAINT_AT_END, ACCEPTED);
+    arc = longest->arc;
+    call_and_compare(&costing, sheet, sizeof sheet, PAINT_AT_END,
+                     longest->answer);
+    stop_unless(memcmp(before, sheet, sizeof sheet) == 0, "comparison");
+}
+
+static void test_stack(const struct subject *subject)
+{
+    if (subject->stack_used > subject->stack_named) {
         fprintf(stderr,
-                "c boundary: stack: nimovalsa_check used %zu bytes, "
-                "the header says %d\n",
-                stack_of_check, NIMOVALSA_CHECK_STACK);
+                "c boundary: stack: %s used %zu bytes, the header says %zu\n",
+                subject->name, subject->stack_used, subject->stack_named);
         exit(1);
     }
 }
@@ -620,8 +842,20 @@ int main(int argc, char **argv)
     test_record_changes(make_empty_sheet, empty_changes, COUNT(empty_changes));
     test_order();
     test_lengths();
-    test_stack();
-    printf("c boundary: %lu calls as expected, stack %zu bytes\n", calls,
-           stack_of_check);
+
+    test_arcs(make_case_sheet, "case sheet", case_arcs, COUNT(case_arcs));
+    test_arcs(make_case_sheet_with_overhaul, "case sheet with an overhaul",
+              overhaul_arcs, COUNT(overhaul_arcs));
+    test_arcs(make_middle_sheet, "middle sheet", middle_arcs,
+              COUNT(middle_arcs));
+    test_arcs(make_limit_sheet, "limit sheet", limit_arcs, COUNT(limit_arcs));
+    test_arcs(make_empty_sheet, "empty sheet", empty_arcs, COUNT(empty_arcs));
+
+    test_sheet_unchanged();
+    test_stack(&checking);
+    test_stack(&costing);
+    printf("c boundary: %lu calls as expected, stack %zu bytes for "
+           "nimovalsa_check, %zu for nimovalsa_cost\n",
+           calls, checking.stack_used, costing.stack_used);
     return 0;
 }

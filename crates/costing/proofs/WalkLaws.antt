@@ -118,20 +118,15 @@ pub walk-stands : (a : Kept) (w : Walk) (n : ℕ) → w ≡ walkAt a n → w ≡
 walk-stands a w n stands = stands ∙ ap (walkAt a) (sym (walk-years a w n stands))
 
 -- an overhaul of age n costs what its amount paid in year n of the arc does; one of another age costs nothing
-module _ (a : Kept) (j n : ℕ) where
+module _ (discount amount grow from age n : ℕ) where
   pub overhaul-falls :
-      getD (a .terms .overhauls .ages) j 0 ≡ n
-      → rounded (a .discount) (once (getD (a .terms .overhauls .amounts) j 0) (a .terms .overhauls .grow) (a .from + n))
-      ≡ total (rounded (a .discount)) (when (eqb (ageOf a j) n) (overhaul a j))
-  unfolding overhaul ageOf
+      age ≡ n
+      → rounded discount (once amount grow (from + n)) ≡ total (rounded discount) (when (eqb age n) (once amount grow (from + age)))
   overhaul-falls e =
-      rw (eq-eqb (getD (a .terms .overhauls .ages) j 0) n e, Sum.when-true (rounded (a .discount)))
-      (ap (λ (x : ℕ). rounded (a .discount) (once (getD (a .terms .overhauls .amounts) j 0) (a .terms .overhauls .grow) (a .from + x))) (sym e))
+      rw (eq-eqb age n e, Sum.when-true (rounded discount)) (ap (λ (x : ℕ). rounded discount (once amount grow (from + x))) (sym e))
 
-  pub overhaul-waits :
-      (getD (a .terms .overhauls .ages) j 0 ≡ n → ⊥) → 0 ≡ total (rounded (a .discount)) (when (eqb (ageOf a j) n) (overhaul a j))
-  unfolding ageOf
-  overhaul-waits d = rw (ne-eqb (getD (a .terms .overhauls .ages) j 0) n d) (sym (Sum.when-false (rounded (a .discount)) (overhaul a j)))
+  pub overhaul-waits : (age ≡ n → ⊥) → 0 ≡ total (rounded discount) (when (eqb age n) (once amount grow (from + age)))
+  overhaul-waits d = rw (ne-eqb age n d) (sym (Sum.when-false (rounded discount) (once amount grow (from + age))))
 
 -- what the first k overhauls cost in year n of the arc
 unfoldable pub dueBy : Kept → (n k : ℕ) → ℕ
@@ -142,8 +137,11 @@ unfolding dueBy
 dueBy-zero a n = sym (Sum.forEach-zero (rounded (a .discount)) _)
 
 pub dueBy-suc :
-    (a : Kept) (n k : ℕ) → dueBy a n k + total (rounded (a .discount)) (when (eqb (ageOf a k) n) (overhaul a k)) ≡ dueBy a n (k + 1)
-unfolding dueBy
+    (a : Kept) (n k : ℕ)
+    → let o = a .terms .overhauls in
+    let age = getD (o .ages) k 0 in
+    dueBy a n k + total (rounded (a .discount)) (when (eqb age n) (once (getD (o .amounts) k 0) (o .grow) (a .from + age))) ≡ dueBy a n (k + 1)
+unfolding dueBy overhaul ageOf
 dueBy-suc a n k = rw (add-one k) (sym (Sum.forEach-suc (rounded (a .discount)) k _))
 
 pub dueBy-all : (a : Kept) (n : ℕ) → dueBy a n (a .terms .overhauls .count) ≡ total (rounded (a .discount)) (overhaulsAt a n)

@@ -1,4 +1,4 @@
--- What the code of the steps asks so that 64 bits suffice. `StepLaws.antt` and `ArcLaws.antt` derive it from the facts of the check.
+-- What the code of the steps asks so that 64 bits suffice. `RoomLaws.antt`, `SizeLaws.antt` and `CostLaws.antt` derive it from the facts of the check.
 -- Definitions only.
 use Prim.Native.Nat.{ℕ, _*_, _≤_}
 use Rattle.checking.specs.Fit.{TermsFit}

@@ -1,4 +1,4 @@
--- An arc paid year by year, as the code extends it: the same payments in another order, which `WalkLaws.antt` shows. Definitions only.
+-- An arc paid year by year, as the code extends it: the same payments in another order (`walked-paid` in `SumLaws.antt`). Definitions only.
 use Prim.Native.Nat.{ℕ, suc}
 use mathlib.Core.List.{List, [], _∷_, _++_}
 use lib.Dec.{eqb}

@@ -4,7 +4,7 @@ ghost use mathlib.Core.Path.{_≡_};
 ghost use Prim.Native.Nat.{_+_, _*_, _<_, _≤_};
 ghost use lib.Dec.{eqb};
 ghost use Rattle.costing.specs.Payment.{rounded, total};
-ghost use Rattle.costing.specs.Arc.{once, when, overhaul, ageOf, paid};
+ghost use Rattle.costing.specs.Arc.{once, when, paid};
 ghost use Rattle.costing.specs.Fit.{PlainFits, KeptFits};
 ghost use Rattle.costing.specs.Walk.{overhaulsAt, walkAt};
 use crate::Kept;
@@ -19,22 +19,18 @@ fn paid_once(amount: u64, grow: u64, discount: u64, year: u64) -> Units
     Units(amount * 10_000).plain_years(grow, discount, year)
 }
 
-impl Kept {
-    // What overhaul j costs in year n of the arc, from 0: nothing unless its age is n.
-    fn overhaul_at(self, j: usize, n: u64) -> Units
-        requires { ⌜ KeptFits self × (j < self .terms .overhauls .count) × (n ≤ 300) ⌝ }
-        ensures { λ r. ⌜ r .0 ≡ total (rounded (self .discount)) (when (eqb (ageOf self j) n) (overhaul self j)) ⌝ }
-    {
-        let terms = self.terms;
-        let overhauls = terms.overhauls;
-        let ages = overhauls.ages;
-        let amounts = overhauls.amounts;
-        if ages[j] == n {
-            return paid_once(amounts[j], overhauls.grow, self.discount, self.from + n);
-        }
-        Units(0)
+// What an overhaul costs in year n of an arc, from 0: nothing unless n is its age.
+fn overhaul_at(age: u64, amount: u64, grow: u64, discount: u64, from: u64, n: u64) -> Units
+    requires { ⌜ PlainFits grow discount (amount * 10_000) × (from ≤ 300) × (n ≤ 300) ⌝ }
+    ensures { λ r. ⌜ r .0 ≡ total (rounded discount) (when (eqb age n) (once amount grow (from + age))) ⌝ }
+{
+    if age == n {
+        return paid_once(amount, grow, discount, from + n);
     }
+    Units(0)
+}
 
+impl Kept {
     // What the overhauls of age n cost.
     fn overhauls_at(self, n: u64) -> Units
         requires { ⌜ KeptFits self × (n ≤ 300) ⌝ }
@@ -42,10 +38,19 @@ impl Kept {
     {
         let terms = self.terms;
         let overhauls = terms.overhauls;
+        let ages = overhauls.ages;
+        let amounts = overhauls.amounts;
         let count = overhauls.count as usize;
         let mut sum = 0;
         for j in 0..count {
-            sum += self.overhaul_at(j, n).0;
+            sum += overhaul_at(
+                ages[j],
+                amounts[j],
+                overhauls.grow,
+                self.discount,
+                self.from,
+                n,
+            ).0;
         }
         Units(sum)
     }

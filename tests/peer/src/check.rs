@@ -1,51 +1,27 @@
 //! Refusals 1 to 9 of document 01, written from its refusal table alone.
 
+use crate::answer::Answer;
 use crate::sheet::{read, Flow, Overhaul, Record, Sheet, MARK};
 
-const NO_OPTION: u64 = 3;
 const LARGEST_AMOUNT: i64 = 1_000_000_000;
 const MILLION: i128 = 1_000_000;
 
-/// The number of the refusal, 0 if there is none, and the option that it is about.
-#[derive(Clone, Copy, Debug, PartialEq)]
-pub struct Answer {
-    pub number: u64,
-    pub option: u64,
-}
-
-impl Answer {
-    const ACCEPTED: Answer = Answer::of_sheet(0);
-
-    const fn of_sheet(number: u64) -> Answer {
-        Answer {
-            number,
-            option: NO_OPTION,
-        }
-    }
-
-    /// The answer as the C form returns it; checking's total is 0.
-    pub fn packed(self) -> u64 {
-        self.number * 4 + self.option
-    }
-}
-
 pub fn check(bytes: &[u8]) -> Answer {
-    match read(bytes) {
-        None => Answer::of_sheet(1),
-        Some(sheet) => check_sheet(&sheet),
-    }
+    checked(bytes).err().unwrap_or(Answer::accepted(0))
 }
 
-fn check_sheet(sheet: &Sheet) -> Answer {
-    if let Some(number) = head_fault(sheet) {
-        return Answer::of_sheet(number);
+/// The sheet that passes, or else the first refusal.
+pub fn checked(bytes: &[u8]) -> Result<Sheet, Answer> {
+    let sheet = read(bytes).ok_or(Answer::refused(1))?;
+    if let Some(number) = head_fault(&sheet) {
+        return Err(Answer::refused(number));
     }
     for (option, record) in (0..).zip(&sheet.records) {
         if let Some(number) = record_fault(record, sheet.rate) {
-            return Answer { number, option };
+            return Err(Answer::refused_in(option, number));
         }
     }
-    Answer::ACCEPTED
+    Ok(sheet)
 }
 
 fn head_fault(sheet: &Sheet) -> Option<u64> {
@@ -138,21 +114,14 @@ mod tests {
 
     /// T 30, r 40,000, every record zero.
     fn plain_sheet() -> Vec<u8> {
-        let mut sheet = vec![0; SHEET_BYTES];
-        sheet[..3].copy_from_slice(&MARK);
-        write(&mut sheet, VERSION, 1);
-        write(&mut sheet, HORIZON, 30);
-        write(&mut sheet, RATE, 40_000);
-        sheet
+        with_head(30, 40_000)
     }
 
     /// The answer on the plain sheet after some fields got other values.
     fn answer(changes: &[(Field, i64)]) -> (u64, u64) {
         let mut sheet = plain_sheet();
-        for &(field, value) in changes {
-            write(&mut sheet, field, value);
-        }
-        let Answer { number, option } = check(&sheet);
+        write_all(&mut sheet, changes);
+        let Answer { number, option, .. } = check(&sheet);
         (number, option)
     }
 
@@ -205,9 +174,9 @@ mod tests {
     #[test]
     fn length_mark_version_and_rate() {
         let sheet = plain_sheet();
-        assert_eq!(check(&sheet[..SHEET_BYTES - 1]), Answer::of_sheet(1));
-        assert_eq!(check(&[]), Answer::of_sheet(1));
-        assert_eq!(check(&[&sheet[..], &[0]].concat()), Answer::of_sheet(1));
+        assert_eq!(check(&sheet[..SHEET_BYTES - 1]), Answer::refused(1));
+        assert_eq!(check(&[]), Answer::refused(1));
+        assert_eq!(check(&[&sheet[..], &[0]].concat()), Answer::refused(1));
         assert_eq!(answer(&[(VERSION, 2)]), (2, 3));
         assert_eq!(answer(&[(VERSION, 257)]), (2, 3));
         assert_eq!(answer(&[(RATE, 200_000)]), (0, 3));

@@ -1,10 +1,12 @@
-//! The comparison of the library's answers with the independent ones.
+//! The comparison of the library's checks with the independent ones.
 
+use crate::answer::described;
 use crate::check::check;
 use crate::damaged::{random_sheet, LONGEST_INPUT};
 use crate::edits::{apply, edits_for};
 use crate::library;
 use crate::random::Random;
+use crate::report::{difference, least_seen, summary};
 use crate::sheet::OPTIONS;
 use crate::valid::valid_sheet;
 
@@ -14,18 +16,9 @@ const LEAST_SEEN: u64 = 300;
 const SWEPT_SHEETS: usize = 16;
 
 /// The packed answers that checking has: 0 to 4 with option 3, 5 to 9 with options 0 to 2.
-fn possible_answers() -> impl Iterator<Item = u64> {
+pub fn possible_answers() -> impl Iterator<Item = u64> {
     let of_options = (5..10).flat_map(|number| (0..3).map(move |option| number * 4 + option));
     (0..5).map(|number| number * 4 + 3).chain(of_options)
-}
-
-fn described(packed: u64) -> String {
-    format!(
-        "number {} option {} total {}",
-        packed % 256 / 4,
-        packed % 4,
-        packed / 256
-    )
 }
 
 struct Comparison {
@@ -79,31 +72,11 @@ impl Comparison {
         Ok(())
     }
 
-    /// The smallest number of times that a possible answer was seen.
     fn least_seen(&self) -> Result<u64, String> {
-        let mut least = u64::MAX;
-        for packed in possible_answers() {
-            let seen = self.seen[packed as usize];
-            if seen < LEAST_SEEN {
-                let answer = described(packed);
-                return Err(format!(
-                    "{answer} seen {seen} times, fewer than {LEAST_SEEN}"
-                ));
-            }
-            least = least.min(seen);
-        }
-        Ok(least)
+        let counts =
+            possible_answers().map(|packed| (described(packed), self.seen[packed as usize]));
+        least_seen(counts, LEAST_SEEN)
     }
-}
-
-fn difference(answer: u64, expected: u64, sheet: &[u8]) -> String {
-    let hex: String = sheet.iter().map(|byte| format!("{byte:02x}")).collect();
-    format!(
-        "library answers {}, peer answers {}, {} bytes: {hex}",
-        described(answer),
-        described(expected),
-        sheet.len()
-    )
 }
 
 pub fn compare_all(seed: u64, count: u64) -> Result<String, String> {
@@ -117,8 +90,5 @@ pub fn compare_all(seed: u64, count: u64) -> Result<String, String> {
         comparison.compare(&random_sheet(&mut random))?;
     }
     let least = comparison.least_seen()?;
-    let compared = comparison.compared;
-    Ok(format!(
-        "{compared} sheets compared, 0 differences, every answer seen at least {least} times"
-    ))
+    Ok(summary(comparison.compared, "sheets", least))
 }

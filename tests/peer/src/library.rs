@@ -1,12 +1,20 @@
 //! The library's C calls, made safe.
 #![allow(unsafe_code)]
 
+use crate::cost::Arc;
+
 #[link(name = "nimovalsa", kind = "static")]
 extern "C" {
     fn nimovalsa_check(sheet: *const u8, length: usize) -> u64;
+    fn nimovalsa_cost(sheet: *const u8, length: usize, option: u64, start: u64, end: u64) -> u64;
 }
 
 pub fn check(sheet: &[u8]) -> u64 {
     // SAFETY: the pointer and the length are those of one slice, which the call only reads.
     unsafe { nimovalsa_check(sheet.as_ptr(), sheet.len()) }
+}
+
+pub fn cost(sheet: &[u8], arc: Arc) -> u64 {
+    // SAFETY: as above; the other three may be any numbers.
+    unsafe { nimovalsa_cost(sheet.as_ptr(), sheet.len(), arc.option, arc.start, arc.end) }
 }

@@ -1,41 +1,62 @@
-//! Compares nimovalsa_check of libnimovalsa.a with the independent check on many sheets.
+//! Compares nimovalsa_check and nimovalsa_cost of libnimovalsa.a with independent
+//! implementations of them on many sheets and arcs, or times nimovalsa_cost.
 //!
-//! Use: peer [SEED [COUNT]]. Equal arguments give equal sheets. The sheets start as valid ones
-//! and then get values at, just below and just above the limits of the rules.
+//! Use: peer [SEED [COUNT]], or peer time. Equal arguments give equal sheets and arcs. COUNT is
+//! the number of sheets that are checked. They start as valid ones and then get values at, just
+//! below and just above the limits of the rules.
 //! Status: 0 if all answers agree and each possible answer was seen often enough, 1 if not,
-//! 2 for wrong arguments.
+//! 2 for wrong arguments. With time: 0 if the answers agree, however long they take.
 #![deny(unsafe_code)]
 
+mod answer;
+mod arcs;
 mod check;
 mod compare;
+mod compare_costs;
+mod cost;
+mod cost_fast;
 mod damaged;
 mod edits;
 mod library;
 mod random;
+mod report;
 mod sheet;
+mod sheets;
+mod timing;
 mod valid;
 
 use compare::compare_all;
+use compare_costs::compare_costs;
 use std::env;
 use std::process::ExitCode;
+use timing::times;
 
 const DEFAULT_SEED: u64 = 1;
 const DEFAULT_COUNT: u64 = 240_000;
 const LEAST_COUNT: u64 = 200_000;
+
+enum Task {
+    Compare { seed: u64, count: u64 },
+    Time,
+}
 
 fn number(word: &str, name: &str) -> Result<u64, String> {
     word.parse()
         .map_err(|_| format!("{name} is not a whole number: {word}"))
 }
 
-/// The seed and the count.
-fn arguments() -> Result<(u64, u64), String> {
+fn task() -> Result<Task, String> {
     let words: Vec<String> = env::args_os()
         .skip(1)
         .map(|word| word.to_string_lossy().into())
         .collect();
-    if words.len() > 2 {
-        return Err("use: peer [SEED [COUNT]]".into());
+    let timed = words.first().is_some_and(|word| word == "time");
+    let most = if timed { 1 } else { 2 };
+    if words.len() > most {
+        return Err("use: peer [SEED [COUNT]], or peer time".into());
+    }
+    if timed {
+        return Ok(Task::Time);
     }
     let seed = words
         .first()
@@ -46,25 +67,31 @@ fn arguments() -> Result<(u64, u64), String> {
     if count < LEAST_COUNT {
         return Err(format!("count is below {LEAST_COUNT}: {count}"));
     }
-    Ok((seed, count))
+    Ok(Task::Compare { seed, count })
+}
+
+/// Prints a line as soon as it is known.
+fn perform(task: Task) -> Result<(), String> {
+    match task {
+        Task::Compare { seed, count } => {
+            println!("rust peer: {}", compare_all(seed, count)?);
+            println!("rust peer: {}", compare_costs(seed)?);
+        }
+        Task::Time => {
+            for line in times()? {
+                println!("rust peer: {line}");
+            }
+        }
+    }
+    Ok(())
 }
 
 fn main() -> ExitCode {
-    let (seed, count) = match arguments() {
-        Ok(given) => given,
-        Err(line) => {
-            eprintln!("rust peer: {line}");
-            return ExitCode::from(2);
-        }
+    let (status, line) = match task().map(perform) {
+        Ok(Ok(())) => return ExitCode::SUCCESS,
+        Ok(Err(line)) => (1, line),
+        Err(line) => (2, line),
     };
-    match compare_all(seed, count) {
-        Ok(line) => {
-            println!("rust peer: {line}");
-            ExitCode::SUCCESS
-        }
-        Err(line) => {
-            eprintln!("rust peer: {line}");
-            ExitCode::FAILURE
-        }
-    }
+    eprintln!("rust peer: {line}");
+    ExitCode::from(status)
 }

@@ -35,4 +35,8 @@ impl Random {
         };
         drawn.clamp(low, high)
     }
+
+    pub fn at_an_end(&mut self, low: i64, high: i64) -> i64 {
+        [low, high][self.below(2)]
+    }
 }

@@ -82,6 +82,23 @@ pub fn write(sheet: &mut [u8], field: Field, value: i64) {
     sheet[field.at..field.at + field.bytes].copy_from_slice(&bytes[..field.bytes]);
 }
 
+pub fn write_all(sheet: &mut [u8], values: &[(Field, i64)]) {
+    for &(field, value) in values {
+        write(sheet, field, value);
+    }
+}
+
+/// A sheet with all records zero.
+pub fn with_head(horizon: i64, rate: i64) -> Vec<u8> {
+    let mut sheet = vec![0; SHEET_BYTES];
+    sheet[..MARK.len()].copy_from_slice(&MARK);
+    write_all(
+        &mut sheet,
+        &[(VERSION, 1), (HORIZON, horizon), (RATE, rate)],
+    );
+    sheet
+}
+
 pub struct Sheet {
     pub mark: [u8; 3],
     pub version: i64,

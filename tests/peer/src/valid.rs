@@ -3,76 +3,118 @@
 use crate::random::Random;
 use crate::sheet::*;
 
-pub fn valid_sheet(random: &mut Random) -> Vec<u8> {
-    let mut sheet = vec![0; SHEET_BYTES];
-    let rate = random.near_an_end(0, 200_000);
-    sheet[..MARK.len()].copy_from_slice(&MARK);
-    write(&mut sheet, VERSION, 1);
-    write(&mut sheet, HORIZON, random.near_an_end(1, 300));
-    write(&mut sheet, RATE, rate);
-    for option in 0..OPTIONS {
-        write_lives(random, &mut sheet, option);
-        write_investment(random, &mut sheet, option, rate);
-        write_flows(random, &mut sheet, option, rate);
-        write_overhauls(random, &mut sheet, option, rate);
-    }
-    sheet
-}
-
-fn write_lives(random: &mut Random, sheet: &mut [u8], option: usize) {
-    if random.below(4) > 0 {
-        let shortest = random.near_an_end(1, 120);
-        let longest = random.near_an_end(shortest, 120);
-        write(sheet, of_option(option, SHORTEST), shortest);
-        write(sheet, of_option(option, LONGEST), longest);
-    }
-}
-
-fn write_investment(random: &mut Random, sheet: &mut [u8], option: usize, rate: i64) {
-    let inflation = random.near_an_end(-100_000, rate);
-    write(sheet, of_option(option, INVESTMENT), amount(random));
-    write(sheet, of_option(option, INVESTMENT_INFLATION), inflation);
-}
-
 /// The fields of the payments that have an ageing: amount, inflation, ageing.
 pub const FLOWS: [[Field; 3]; 2] = [
     [MAINTENANCE, MAINTENANCE_INFLATION, MAINTENANCE_AGEING],
     [ELECTRICITY, ELECTRICITY_INFLATION, ELECTRICITY_AGEING],
 ];
 
-fn write_flows(random: &mut Random, sheet: &mut [u8], option: usize, rate: i64) {
-    for flow in FLOWS {
-        let [amount_field, inflation_field, ageing_field] =
-            flow.map(|inner| of_option(option, inner));
-        let inflation = random.near_an_end(-100_000, rate);
-        let most = largest_partner(rate, inflation).min(300_000);
-        write(sheet, amount_field, amount(random));
-        write(sheet, inflation_field, inflation);
-        write(sheet, ageing_field, random.near_an_end(0, most));
-    }
+/// From which ranges the fields are drawn, and how.
+pub struct Shape {
+    /// Draws from a lowest to a highest value.
+    pub draw: fn(&mut Random, i64, i64) -> i64,
+    pub longest_life: i64,
+    /// The highest age of an overhaul.
+    pub oldest: i64,
+    pub fewest_overhauls: usize,
 }
 
-/// The count is from 0 to 8; the ages rise and leave room for those that follow.
-fn write_overhauls(random: &mut Random, sheet: &mut [u8], option: usize, rate: i64) {
-    let count = random.below(OVERHAULS + 1);
-    let inflation = random.near_an_end(-100_000, rate);
-    let mut age = 0;
-    write(sheet, of_option(option, OVERHAUL_INFLATION), inflation);
-    write(sheet, of_option(option, OVERHAUL_COUNT), count as i64);
-    for entry in 0..count {
-        let following = (count - entry - 1) as i64;
-        age = random.near_an_end(age + 1, 119 - following);
-        write(sheet, of_option(option, overhaul_age(entry)), age);
-        write(
-            sheet,
-            of_option(option, overhaul_amount(entry)),
-            amount(random),
-        );
-    }
+pub fn valid_sheet(random: &mut Random) -> Vec<u8> {
+    let shape = Shape {
+        draw: Random::near_an_end,
+        longest_life: 120,
+        oldest: 119,
+        fewest_overhauls: 0,
+    };
+    shaped_sheet(random, &shape)
 }
 
-fn amount(random: &mut Random) -> i64 {
-    random.near_an_end(0, 1_000_000_000)
+pub fn shaped_sheet(random: &mut Random, shape: &Shape) -> Vec<u8> {
+    let rate = (shape.draw)(random, 0, 200_000);
+    let horizon = (shape.draw)(random, 1, 300);
+    let mut drawing = Drawing {
+        random,
+        shape,
+        rate,
+        sheet: with_head(horizon, rate),
+    };
+    for option in 0..OPTIONS {
+        drawing.lives(option);
+        drawing.investment(option);
+        drawing.flows(option);
+        drawing.overhauls(option);
+    }
+    drawing.sheet
+}
+
+struct Drawing<'a> {
+    random: &'a mut Random,
+    shape: &'a Shape,
+    rate: i64,
+    sheet: Vec<u8>,
+}
+
+impl Drawing<'_> {
+    fn draw(&mut self, low: i64, high: i64) -> i64 {
+        (self.shape.draw)(self.random, low, high)
+    }
+
+    fn amount(&mut self) -> i64 {
+        self.draw(0, 1_000_000_000)
+    }
+
+    fn inflation(&mut self) -> i64 {
+        self.draw(-100_000, self.rate)
+    }
+
+    fn write(&mut self, option: usize, inner: Field, value: i64) {
+        write(&mut self.sheet, of_option(option, inner), value);
+    }
+
+    fn lives(&mut self, option: usize) {
+        if self.random.below(4) > 0 {
+            let shortest = self.draw(1, self.shape.longest_life);
+            let longest = self.draw(shortest, self.shape.longest_life);
+            self.write(option, SHORTEST, shortest);
+            self.write(option, LONGEST, longest);
+        }
+    }
+
+    fn investment(&mut self, option: usize) {
+        let inflation = self.inflation();
+        let amount = self.amount();
+        self.write(option, INVESTMENT, amount);
+        self.write(option, INVESTMENT_INFLATION, inflation);
+    }
+
+    fn flows(&mut self, option: usize) {
+        for [amount_field, inflation_field, ageing_field] in FLOWS {
+            let inflation = self.inflation();
+            let most = largest_partner(self.rate, inflation).min(300_000);
+            let amount = self.amount();
+            let ageing = self.draw(0, most);
+            self.write(option, amount_field, amount);
+            self.write(option, inflation_field, inflation);
+            self.write(option, ageing_field, ageing);
+        }
+    }
+
+    /// The ages rise and leave room for those that follow.
+    fn overhauls(&mut self, option: usize) {
+        let fewest = self.shape.fewest_overhauls;
+        let count = fewest + self.random.below(OVERHAULS + 1 - fewest);
+        let inflation = self.inflation();
+        let mut age = 0;
+        self.write(option, OVERHAUL_INFLATION, inflation);
+        self.write(option, OVERHAUL_COUNT, count as i64);
+        for entry in 0..count {
+            let following = (count - entry - 1) as i64;
+            age = self.draw(age + 1, self.shape.oldest - following);
+            let amount = self.amount();
+            self.write(option, overhaul_age(entry), age);
+            self.write(option, overhaul_amount(entry), amount);
+        }
+    }
 }
 
 /// For an inflation f, the largest ageing g with (10^6 + f)(10^6 + g) ≤ 10^6 (10^6 + r);

@@ -2,31 +2,48 @@
 use Prim.Native.Nat.{_+_, _≤_, _-_}
 use mathlib.Core.Path.{_≡_, _∙_}
 use native.Mathlib.Omega.{arith}
+use Rattle.costing.proofs.RoomLaws.{amount-fits}
 use Rattle.costing.proofs.WalkLaws.{dueBy, dueBy-zero, dueBy-suc, dueBy-all, dueBy-lt}
 use Rattle.costing.proofs.Kept.overhauls_at.Statement.{statement}
 use Rattle.costing.proofs.Kept.overhauls_at.Tie as tie
 
 abbrev Inv-loop : tie.InvT-loop
-Inv-loop self n count sum₀ j₀ sum j = (j ≤ count) × (sum ≡ dueBy self n j)
+Inv-loop self n overhauls ages amounts count sum₀ j₀ sum j = (j ≤ count) × (sum ≡ dueBy self n j)
 
 abbrev μ-loop : tie.MeasureT-loop
-μ-loop self n count sum₀ j₀ sum j = count - j
+μ-loop self n overhauls ages amounts count sum₀ j₀ sum j = count - j
 
 loop-holds : tie.Need-loop-holds Inv-loop μ-loop
 loop-holds c = (omega arith, dueBy-zero _ _)
 
+mul-overhaul-at : tie.Need-mul-overhaul-at Inv-loop μ-loop
+mul-overhaul-at c = omega (arith, c .before .before .before .before .before .before .pre .0 .terms .overhauls .count)
+
+array-read-overhaul-at : tie.Need-array-read-overhaul-at Inv-loop μ-loop
+array-read-overhaul-at c = omega (arith, c .before .before .before .before .before .before .pre .0 .terms .overhauls .count)
+
+mul-overhaul-at-2 : tie.Need-mul-overhaul-at-2 Inv-loop μ-loop
+mul-overhaul-at-2 c = omega (arith, c .before .before .before .before .before .before .pre .0 .terms .overhauls .count)
+
+array-read-overhaul-at-2 : tie.Need-array-read-overhaul-at-2 Inv-loop μ-loop
+array-read-overhaul-at-2 c = omega (arith, c .before .before .before .before .before .before .pre .0 .terms .overhauls .count)
+
 overhaul-at-requires : tie.Need-overhaul-at-requires Inv-loop μ-loop
-overhaul-at-requires c κs = (c .before .before .before .before .pre .0, omega arith, c .before .before .before .before .pre .1)
+overhaul-at-requires c κs =
+    let s = c .before .before .before .before .before .before in
+    let h = s .pre .0 in
+    let o = h .terms .overhauls in
+    (amount-fits _ _ _ (h .low) (h .high) (o .grow .high) (o .amount _ (c .loop-test .taken)), h .from, s .pre .1)
 
 sum-next :
     (c : tie.After-overhaul-at Inv-loop μ-loop) →
-    let a = c .before .before .before .before .before .args in
+    let a = c .before .before .before .before .before .before .before .args in
     c .before .before .loop .sum + c .overhaul-at .result .0 ≡ dueBy (a .self) (a .n) (c .before .before .loop .j + 1)
 sum-next c = rw (c .before .before .loop .inv .1, c .overhaul-at .ensures) (dueBy-suc _ _ _)
 
 add-sum : tie.Need-add-sum Inv-loop μ-loop
 add-sum c =
-    let s = c .before .before .before .before .before .before in
+    let s = c .before .before .before .before .before .before .before .before in
     let k = c .before .before .before .loop .j + 1 in
     rw (sum-next (c .before)) (omega (arith, dueBy-lt (s .args .self) (s .pre .0) (s .args .n) k (omega arith)))
 
@@ -41,7 +58,7 @@ loop-again c = (omega arith, sum-next (c .before))
 
 returns : tie.Need-returns Inv-loop μ-loop
 returns c =
-    let e : c .before .loop .j ≡ c .before .before .before .before .args .self .terms .overhauls .count = omega arith in
+    let e : c .before .loop .j ≡ c .before .before .before .before .before .before .args .self .terms .overhauls .count = omega arith in
     rw e at (c .before .loop .inv .1) ∙ dueBy-all _ _
 
 pub overhauls-at-spec : {M : Type 1} → statement M
@@ -51,6 +68,10 @@ overhauls-at-spec =
     Inv-loop
     μ-loop
     loop-holds
+    mul-overhaul-at
+    array-read-overhaul-at
+    mul-overhaul-at-2
+    array-read-overhaul-at-2
     overhaul-at-requires
     add-sum
     add-j

@@ -1,0 +1,325 @@
+//! What an arc costs, and refusal 13, written from document 01 alone. Every payment is moved
+//! forward on its own, from its amount in year 0 to its year.
+
+use crate::answer::Answer;
+use crate::check::checked;
+use crate::sheet::{Record, Sheet};
+use std::iter;
+
+const UNITS: u128 = 10_000;
+const MILLION: u128 = 1_000_000;
+const MAINTAIN: u64 = 0;
+const REPLACE: u64 = 2;
+
+/// An option kept from a start year to an end year, as a caller gives them: any three numbers.
+#[derive(Clone, Copy, Debug)]
+pub struct Arc {
+    pub option: u64,
+    pub start: u64,
+    pub end: u64,
+}
+
+/// The conditions of refusal 13, in the order of its row.
+#[derive(Clone, Copy, Debug, PartialEq, Eq, PartialOrd, Ord)]
+pub enum Fault {
+    OptionAboveTwo,
+    EndAboveHorizon,
+    EndBeforeStart,
+    MaintainNotFromZero,
+    LengthNotOffered,
+}
+
+#[derive(Clone, Copy, Debug, PartialEq)]
+pub enum Refusal {
+    /// One of 1 to 9.
+    OfSheet(Answer),
+    /// 13, and the first condition that holds.
+    OfArc(Fault),
+}
+
+/// The cost of the arc, or why there is none.
+pub fn cost(bytes: &[u8], arc: Arc) -> Result<u64, Refusal> {
+    let sheet = checked(bytes).map_err(Refusal::OfSheet)?;
+    match fault(&sheet, arc) {
+        Some(fault) => Err(Refusal::OfArc(fault)),
+        None => Ok(arc_cost(&sheet, arc)),
+    }
+}
+
+pub fn answer(outcome: Result<u64, Refusal>) -> Answer {
+    match outcome {
+        Ok(total) => Answer::accepted(total),
+        Err(Refusal::OfSheet(answer)) => answer,
+        Err(Refusal::OfArc(_)) => Answer::refused(13),
+    }
+}
+
+/// Numbers are compared as i128, in which those of the caller and of the sheet all fit.
+pub fn fault(sheet: &Sheet, arc: Arc) -> Option<Fault> {
+    let [start, end] = [arc.start, arc.end].map(i128::from);
+    if arc.option > REPLACE {
+        Some(Fault::OptionAboveTwo)
+    } else if end > i128::from(sheet.horizon) {
+        Some(Fault::EndAboveHorizon)
+    } else if end < start {
+        Some(Fault::EndBeforeStart)
+    } else if arc.option == MAINTAIN && start != 0 {
+        Some(Fault::MaintainNotFromZero)
+    } else if !offered(sheet, arc.option, end - start) {
+        Some(Fault::LengthNotOffered)
+    } else {
+        None
+    }
+}
+
+/// Length 0 does not ask for lives; where both are 0 there is no other length.
+fn offered(sheet: &Sheet, option: u64, length: i128) -> bool {
+    let record = &sheet.records[option as usize];
+    if length == 0 {
+        option != REPLACE
+    } else {
+        i128::from(record.shortest) <= length && length <= i128::from(record.longest)
+    }
+}
+
+/// The arc is without fault, so its years are at most 300.
+fn arc_cost(sheet: &Sheet, arc: Arc) -> u64 {
+    let record = &sheet.records[arc.option as usize];
+    let (start, end) = (arc.start as i64, arc.end as i64);
+    if start == end {
+        return 0;
+    }
+    let sum: u128 = payments(record, start, end - start)
+        .map(|payment| payment.value(sheet.rate))
+        .sum();
+    u64::try_from(sum).expect("249 payments of about 10^13 at most")
+}
+
+/// An amount with its rates, and how many steps of each kind bring it from year 0 to its year.
+struct Payment {
+    amount: i64,
+    inflation: i64,
+    ageing: i64,
+    plain_steps: i64,
+    service_steps: i64,
+}
+
+/// The payments of an arc of length 1 or more.
+fn payments(record: &Record, start: i64, length: i64) -> impl Iterator<Item = Payment> + '_ {
+    let investment = Payment {
+        amount: record.investment,
+        inflation: record.investment_inflation,
+        ageing: 0,
+        plain_steps: start,
+        service_steps: 0,
+    };
+    let used = &record.overhauls[..record.overhaul_count as usize];
+    let overhauls = used
+        .iter()
+        .filter(move |overhaul| overhaul.age < length)
+        .map(move |overhaul| Payment {
+            amount: overhaul.amount,
+            inflation: record.overhaul_inflation,
+            ageing: 0,
+            plain_steps: start + overhaul.age,
+            service_steps: 0,
+        });
+    let flows = [&record.maintenance, &record.electricity];
+    let yearly = flows.into_iter().flat_map(move |flow| {
+        (1..=length).map(move |k| Payment {
+            amount: flow.amount,
+            inflation: flow.inflation,
+            ageing: flow.ageing,
+            plain_steps: start,
+            service_steps: k,
+        })
+    });
+    iter::once(investment).chain(overhauls).chain(yearly)
+}
+
+impl Payment {
+    fn value(&self, rate: i64) -> u128 {
+        let mut running = self.amount as u128 * UNITS;
+        for _ in 0..self.plain_steps {
+            running = plain(running, rate, self.inflation);
+        }
+        for _ in 0..self.service_steps {
+            running = in_service(running, rate, self.inflation, self.ageing);
+        }
+        running
+    }
+}
+
+/// Plain: a becomes a × (1,000,000 + f) / (1,000,000 + r), nearest.
+fn plain(a: u128, r: i64, f: i64) -> u128 {
+    nearest(a * factor(f), factor(r))
+}
+
+/// In service: first a × (1,000,000 + g) / 1,000,000, nearest; that result then takes the plain
+/// step.
+fn in_service(a: u128, r: i64, f: i64, g: i64) -> u128 {
+    plain(nearest(a * factor(g), MILLION), r, f)
+}
+
+fn factor(rate: i64) -> u128 {
+    let factor = MILLION.checked_add_signed(rate.into());
+    factor.expect("a checked rate is -100,000 or more")
+}
+
+/// The whole part of the quotient and a half: to the nearest whole unit, a half going up.
+fn nearest(dividend: u128, divisor: u128) -> u128 {
+    (2 * dividend + divisor) / (2 * divisor)
+}
+
+#[cfg(test)]
+mod tests {
+    use super::*;
+    use crate::sheet::*;
+
+    fn lives(option: usize, shortest: i64, longest: i64) -> [(Field, i64); 2] {
+        [
+            (of_option(option, SHORTEST), shortest),
+            (of_option(option, LONGEST), longest),
+        ]
+    }
+
+    fn cost_on(sheet: &[u8], option: u64, start: u64, end: u64) -> Result<u64, Refusal> {
+        cost(sheet, Arc { option, start, end })
+    }
+
+    fn assert_refused(sheet: &[u8], arcs: &[(u64, u64, u64)], fault: Fault) {
+        for &(option, start, end) in arcs {
+            let outcome = cost_on(sheet, option, start, end);
+            assert_eq!(
+                outcome,
+                Err(Refusal::OfArc(fault)),
+                "{option} {start} {end}"
+            );
+            assert_eq!(answer(outcome).packed(), 13 * 4 + 3);
+        }
+    }
+
+    #[test]
+    fn cases_1_to_3_plain() {
+        assert_eq!(plain(10_000, 40_000, 0), 9_615);
+        assert_eq!(plain(9_615, 40_000, 0), 9_245);
+        assert_eq!(plain(5, 0, -100_000), 5);
+    }
+
+    #[test]
+    fn cases_4_and_5_in_service() {
+        assert_eq!(in_service(10_000, 40_000, 0, 20_000), 9_808);
+        assert_eq!(in_service(10_000, 40_000, 10_000, 20_000), 9_906);
+    }
+
+    /// The sheet of cases 6 to 8, without the overhaul.
+    fn case_sheet() -> Vec<u8> {
+        let mut sheet = with_head(3, 40_000);
+        write_all(&mut sheet, &lives(2, 1, 2));
+        write(&mut sheet, of_option(2, INVESTMENT), 1);
+        write(&mut sheet, of_option(2, MAINTENANCE), 1);
+        sheet
+    }
+
+    fn case_sheet_with_overhaul() -> Vec<u8> {
+        let mut sheet = case_sheet();
+        write(&mut sheet, of_option(2, OVERHAUL_COUNT), 1);
+        write(&mut sheet, of_option(2, overhaul_age(0)), 1);
+        write(&mut sheet, of_option(2, overhaul_amount(0)), 1);
+        sheet
+    }
+
+    #[test]
+    fn cases_6_to_8_arcs() {
+        assert_eq!(cost_on(&case_sheet(), 2, 1, 3), Ok(27_749));
+        assert_eq!(cost_on(&case_sheet_with_overhaul(), 2, 1, 3), Ok(36_994));
+        assert_eq!(cost_on(&case_sheet_with_overhaul(), 2, 1, 2), Ok(18_860));
+    }
+
+    // With r 0 a plain step by f −100,000 takes a tenth away, and ageing by 100,000 adds one.
+    #[test]
+    fn each_payment_has_its_own_rates() {
+        let mut sheet = with_head(9, 0);
+        let fields = [
+            (INVESTMENT, 1),
+            (MAINTENANCE, 100),
+            (MAINTENANCE_INFLATION, -100_000),
+            (ELECTRICITY, 10_000),
+            (ELECTRICITY_INFLATION, -100_000),
+            (ELECTRICITY_AGEING, 100_000),
+            (OVERHAUL_INFLATION, -100_000),
+            (OVERHAUL_COUNT, 1),
+            (overhaul_age(0), 1),
+            (overhaul_amount(0), 1_000_000),
+        ];
+        write_all(&mut sheet, &lives(1, 1, 2));
+        write_all(
+            &mut sheet,
+            &fields.map(|(inner, value)| (of_option(1, inner), value)),
+        );
+        // Investment, maintenance, electricity; then the overhaul and the second year.
+        let one_year = 10_000 + 810_000 + 89_100_000;
+        let two_years = one_year + 8_100_000_000 + 729_000 + 88_209_000;
+        assert_eq!(cost_on(&sheet, 1, 1, 2), Ok(one_year));
+        assert_eq!(cost_on(&sheet, 1, 1, 3), Ok(two_years));
+    }
+
+    #[test]
+    fn length_0_costs_nothing_and_needs_no_lives() {
+        let mut sheet = with_head(3, 40_000);
+        for option in 0..OPTIONS {
+            write(&mut sheet, of_option(option, INVESTMENT), 1);
+        }
+        assert_eq!(cost_on(&sheet, 0, 0, 0), Ok(0));
+        for year in 0..=3 {
+            assert_eq!(cost_on(&sheet, 1, year, year), Ok(0));
+        }
+        assert_refused(&sheet, &[(0, 3, 3)], Fault::MaintainNotFromZero);
+        assert_refused(&sheet, &[(2, 0, 0), (2, 3, 3)], Fault::LengthNotOffered);
+        assert_refused(
+            &sheet,
+            &[(0, 0, 1), (1, 0, 1), (2, 0, 1)],
+            Fault::LengthNotOffered,
+        );
+        assert_eq!(answer(cost_on(&sheet, 0, 0, 0)).packed(), 3);
+    }
+
+    #[test]
+    fn each_way_into_13() {
+        let most = u64::MAX;
+        let mut sheet = with_head(9, 0);
+        for option in 0..OPTIONS {
+            write_all(&mut sheet, &lives(option, 2, 3));
+        }
+        for option in 0..3 {
+            assert_eq!(cost_on(&sheet, option, 0, 2), Ok(0));
+            assert_eq!(cost_on(&sheet, option, 0, 3), Ok(0));
+            assert_refused(
+                &sheet,
+                &[(option, 0, 1), (option, 0, 4)],
+                Fault::LengthNotOffered,
+            );
+        }
+        assert_eq!(cost_on(&sheet, 2, 7, 9), Ok(0));
+        assert_refused(&sheet, &[(3, 0, 2), (most, 0, 2)], Fault::OptionAboveTwo);
+        assert_refused(
+            &sheet,
+            &[(2, 8, 10), (2, 0, most), (1, most, most)],
+            Fault::EndAboveHorizon,
+        );
+        assert_refused(
+            &sheet,
+            &[(2, 3, 2), (1, 9, 0), (2, most, 1)],
+            Fault::EndBeforeStart,
+        );
+        assert_refused(&sheet, &[(0, 1, 3), (0, 9, 9)], Fault::MaintainNotFromZero);
+    }
+
+    #[test]
+    fn a_refused_sheet_comes_before_the_arc() {
+        let sheet = with_head(301, 0);
+        let outcome = cost_on(&sheet, u64::MAX, 1, 0);
+        assert_eq!(outcome, Err(Refusal::OfSheet(Answer::refused(3))));
+        assert_eq!(answer(outcome), Answer::refused(3));
+    }
+}
