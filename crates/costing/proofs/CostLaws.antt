@@ -27,11 +27,11 @@ use Rattle.costing.specs.Payment.{rounded, total}
 use Rattle.costing.specs.Arc.{arcOf, paid, payments, cost}
 use Rattle.costing.specs.Offered.{offered, Offered}
 use Rattle.costing.specs.Costing.{costing, costed}
-use Rattle.costing.specs.Error.{WithinAllowance}
+use Rattle.costing.specs.Error.{PaymentNear, Every, WithinAllowance}
 use Rattle.costing.specs.Fit.{KeptFits}
 use Rattle.costing.specs.declared.Kept.{Kept}
 use Rattle.costing.proofs.SizeLaws.{paid-le}
-use Rattle.costing.proofs.ErrorOfArc.{ArcFits, arc-error}
+use Rattle.costing.proofs.ErrorOfArc.{ArcFits, payments-error, arc-error}
 use Rattle.costing.proofs.OfferedLaws.{offered-iff}
 use Rattle.costing.proofs.ReadLaws.{discount-read, terms-read}
 
@@ -118,6 +118,13 @@ module _ (s : List ℕ) (option start end : ℕ) where
   -- an arc that a sheet offers, if the sheet passes its checks: what the laws of the error ask
   pub arc-fits : Passes s → Offered (sheetOf s) option start end → ArcFits (arcOf (sheetOf s) option start end)
   arc-fits h o = record { kept = kept-fits h o; inside = arc-inside (o .forward) (o .inside) }
+
+  -- each payment of such an arc after p plain steps and s in service is off by at most p + 2s halves of a unit
+  pub payments-near :
+      Passes s → Offered (sheetOf s) option start end
+      → Every (PaymentNear (1_000_000 + sheetOf s .rate)) (payments (arcOf (sheetOf s) option start end))
+  unfolding arcOf
+  payments-near h o = payments-error (arcOf (sheetOf s) option start end) (arc-fits h o)
 
   -- an accepted call answers the arc's cost
   costed-cost : costed s option start end .number ≡ 0 → costed s option start end .total ≡ cost (arcOf (sheetOf s) option start end)

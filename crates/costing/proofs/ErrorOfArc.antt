@@ -14,17 +14,16 @@ use Rattle.checking.specs.Fit.{FlowFits}
 use Rattle.checking.proofs.TestLaws.{by-test}
 use Rattle.costing.specs.declared.Kept.{Kept}
 use Rattle.costing.specs.Step.{above, below}
-use Rattle.costing.specs.Payment.{Payment, year, rounded, total}
-use Rattle.costing.specs.Exact.{unrounded, common}
+use Rattle.costing.specs.Payment.{Payment, year, total}
+use Rattle.costing.specs.Exact.{common}
 use Rattle.costing.specs.Arc.{Arc, once, inYear, investment, maintenance, electricity, ageOf, overhaul, forEach, when}
 use Rattle.costing.specs.Arc.{overhaulsBelow, paid, payments, cost, exactCost}
 use Rattle.costing.specs.Walk.{overhaulsAt, added, walked}
-use Rattle.costing.specs.Error.{allowance, WithinAllowance}
+use Rattle.costing.specs.Error.{halves, PaymentNear, Every, allowance, WithinAllowance}
 use Rattle.costing.specs.Fit.{KeptFits}
 use Rattle.costing.proofs.SumLaws.{forEach-zero, forEach-suc, forEach-none, when-true, when-false}
 use Rattle.costing.proofs.SumLaws.{added-total, walked-zero, walked-suc, walked-paid, paid-zero}
-use Rattle.costing.proofs.ErrorOfRounding.{NearBy}
-use Rattle.costing.proofs.ErrorOfPayment.{halves, Sound, Apart, Every, payment-error, total-error}
+use Rattle.costing.proofs.ErrorOfPayment.{Sound, Apart, payment-error, total-error}
 
 -- an arc of an option that passes the checks, by the horizon
 pub record ArcFits (a : Arc) : Type 0 where
@@ -90,9 +89,7 @@ module _ (horizon : ℕ) (k : Kept) (ok : KeptFits k) where
       )
 
 -- so each payment of an arc after p plain steps and s in service is off by at most p + 2s halves of a unit
-pub payments-error :
-    (a : Arc) → ArcFits a
-    → Every (λ p. NearBy (rounded (a .kept .discount) p) (unrounded (a .kept .discount) p) (halves p)) (payments a)
+pub payments-error : (a : Arc) → ArcFits a → Every (PaymentNear (a .kept .discount)) (payments a)
 unfolding payments
 payments-error a ok =
     every-map _ _ (λ p s. payment-error (a .kept .discount) p (s .rates)) (paid (a .kept) (a .years))

@@ -11,12 +11,9 @@ use lib.Pow.{pow-add}
 use Rattle.costing.specs.Step.{above, below, repeated}
 use Rattle.costing.specs.Payment.{Payment, year, rounded, total}
 use Rattle.costing.specs.Exact.{Fraction, scaled, exactPlain, exactInService, unrounded, common, exact}
-use Rattle.costing.proofs.ErrorOfRounding.{Most, NearBy, near-start, near-weaken}
+use Rattle.costing.specs.Error.{Most, NearBy, halves, PaymentNear, Every}
+use Rattle.costing.proofs.ErrorOfRounding.{near-start, near-weaken}
 use Rattle.costing.proofs.ErrorOfStep.{Adds, plain-halves, inService-halves}
-
--- the halves of a unit by which a payment's rounded and exact values may differ: one for each plain step, two for each step in service
-unfoldable pub halves : Payment → ℕ
-halves p = p .plainly + 2 * p .served
 
 -- what the checks give of a payment's factors
 pub record Rates (discount : ℕ) (p : Payment) : Type 0 where
@@ -34,7 +31,7 @@ repeated-adds h step exactStep one (suc k) a x w c =
     near-weaken (mul-le-mul-right _ (omega arith)) (one _ _ (w + h * k) (repeated-adds h step exactStep one k a x w c))
 
 -- a payment after p plain steps and s in service: at most p + 2s halves
-pub payment-error : (discount : ℕ) (p : Payment) → Rates discount p → NearBy (rounded discount p) (unrounded discount p) (halves p)
+pub payment-error : (discount : ℕ) (p : Payment) → Rates discount p → PaymentNear discount p
 unfolding rounded unrounded halves
 payment-error discount p ok =
     let plainly = repeated-adds 1 _ _ (plain-halves (p .grow) discount (ok .positive) (ok .grown)) (p .plainly) in
@@ -109,11 +106,6 @@ payment-over horizon discount p ok h =
 pub record Sound (horizon discount : ℕ) (p : Payment) : Type 0 where
   pub rates : Rates discount p
   pub by : year p ≤ horizon
-
--- each payment of a list
-abbrev pub Every : (Payment → Type 0) → List Payment → Type 0
-Every S [] = Unit {0}
-Every S (p ∷ ps) = S p × Every S ps
 
 pub total-error :
     (horizon discount : ℕ) (ps : List Payment) → Every (Sound horizon discount) ps

@@ -5,20 +5,8 @@ use native.Mathlib.Nat.{mul-le-mul-left}
 use native.Mathlib.Omega.{arith}
 use Rattle.costing.specs.Step.{divided, above, below}
 use Rattle.costing.specs.Exact.{Fraction, scaled}
+use Rattle.costing.specs.Error.{Near}
 use Rattle.costing.proofs.RoundingLaws.{divided-above, divided-below}
-
--- x lies above y by at most W, counted `side` halves at a time
-abbrev pub Most : (side x y W : ℕ) → Type 0
-Most side x y W = 2 * x ≤ 2 * y + side * W
-
--- a rounded amount lies at most W halves of a unit from a fraction, W counted over the fraction's denominator
-pub record Near (a : ℕ) (x : Fraction) (W : ℕ) : Type 0 where
-  pub high : Most above (a * x .denominator) (x .numerator) W
-  pub low : Most below (x .numerator) (a * x .denominator) W
-
--- the same for w halves of a unit, whatever the denominator
-abbrev pub NearBy : (a : ℕ) (x : Fraction) (w : ℕ) → Type 0
-NearBy a x w = Near a x (w * x .denominator)
 
 -- an amount that has not been rounded yet
 pub near-start : (n : ℕ) → Near n (record { numerator = n; denominator = 1 }) 0

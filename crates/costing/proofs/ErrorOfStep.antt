@@ -5,7 +5,8 @@ use native.Mathlib.Nat.{mul-le-mul-left}
 use native.Mathlib.Omega.{arith}
 use Rattle.costing.specs.Step.{plain, inService}
 use Rattle.costing.specs.Exact.{Fraction, scaled, exactPlain, exactInService}
-use Rattle.costing.proofs.ErrorOfRounding.{Near, NearBy, near-divided, near-weaken}
+use Rattle.costing.specs.Error.{Near, NearBy}
+use Rattle.costing.proofs.ErrorOfRounding.{near-divided, near-weaken}
 
 -- one rounding
 pub plain-error :

@@ -89,7 +89,7 @@ module _ (φ : Payment → ℕ) where
 
   pub walked-suc : (a : Kept) (n : ℕ) → total φ (walked a (suc n)) ≡ total φ (walked a n) + total φ (added a n)
   unfolding walked
-  walked-suc a n = rw (total-cons, total-cons, forEach-suc) (omega arith)
+  walked-suc a n = omega (arith, total-cons (investment a) (forEach (suc n) (added a)), total-cons (investment a) (forEach n (added a)), forEach-suc n (added a))
 
   abbrev parts : Kept → ℕ → ℕ
   parts a n =
@@ -99,7 +99,8 @@ module _ (φ : Payment → ℕ) where
   walked-parts : (a : Kept) (n : ℕ) → total φ (walked a n) ≡ parts a n
   walked-parts a zero = rw (walked-zero, below-zero, forEach-zero, forEach-zero) (omega arith)
   walked-parts a (suc n) =
-      rw (walked-suc, added-total, below-next, forEach-suc, forEach-suc, total-one, total-one) (omega (arith, walked-parts a n))
+      rw (walked-suc, added-total, below-next, forEach-suc, forEach-suc, total-one (maintenance a (suc n)), total-one (electricity a (suc n)))
+      (omega (arith, walked-parts a n))
 
   pub paid-zero : (a : Kept) → total φ (paid a 0) ≡ 0
   unfolding paid total
