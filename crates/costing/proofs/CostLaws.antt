@@ -56,11 +56,6 @@ module _ (s : List ℕ) (option start end : ℕ) where
   pub kept-fits : Passes s → Offered (sheetOf s) option start end → KeptFits (arcOf (sheetOf s) option start end .kept)
   unfolding arcOf
   kept-fits h o =
-      let rate = h .header .rate in
-      let horizon = h .header .horizon .1 in
-      let inside = o .inside in
-      let forward = o .forward in
-      let known = o .known in
       record {
         low = omega arith;
         high = omega arith;
@@ -159,8 +154,6 @@ module _ (s : List ℕ) (option start end : ℕ) where
   cost-lt : Passes s → Offered (sheetOf s) option start end → cost (arcOf (sheetOf s) option start end) < 72_057_594_037_927_936
   unfolding cost payments arcOf
   cost-lt h o =
-      let inside = o .inside in
-      let horizon = h .header .horizon .1 in
       let room = paid-le (arcOf (sheetOf s) option start end .kept) (kept-fits h o) (end - start) (omega arith) in
       omega arith
 

@@ -45,8 +45,6 @@ pub aged-fits :
     (grow age discount a : ℕ) → ServiceFits grow age discount a → divided (a * age) 1_000_000 * grow ≤ 18_000_000_000_000_000_000
 aged-fits grow age discount a h =
     let p = h .plainly in
-    let few = p .room in
-    let low = p .low in
     let k : (a + 1) * discount ≤ 10_000_000_000_301 * 1_200_000 = mul-le-mul {n₂ = 10_000_000_000_301} (omega arith) (p .high) in
     let room = aged-room grow age discount (omega arith) (p .grown) (h .product) a in
     omega arith
@@ -64,9 +62,8 @@ module _ (grow discount : ℕ) (positive : 0 < discount) (grown : grow ≤ disco
 -- the room for a plain step lasts through plain steps
 pub plains-fit : (grow discount k a : ℕ) → PlainFits grow discount a → PlainFits grow discount (repeated k (plain grow discount) a)
 plains-fit grow discount k a h =
-    let low = h .low in
     record {
-      low = low;
+      low = h .low;
       high = h .high;
       grown = h .grown;
       room = le-trans (plains-le grow discount (omega arith) (h .grown) k a) (h .room);

@@ -41,7 +41,6 @@ pub inYear-fits :
     → ServiceFits (w .grow) (w .age) discount (rounded discount (inYear w t k))
 inYear-fits discount w t k low high h few =
     let small = inYear-le discount w t k (omega arith) h in
-    let amount = h .amount in
     record {
       plainly = record { low = low; high = high; grown = h .grow .high; room = omega arith };
       aged = h .ageHigh;
@@ -62,7 +61,7 @@ forEach-le φ b (suc n) f h =
 
 module _ (a : Kept) (h : KeptFits a) where
   positive : 0 < a .discount
-  positive = let low = h .low in omega arith
+  positive = omega arith
 
   overhaul-le : (j : ℕ) → j < a .terms .overhauls .count → rounded (a .discount) (overhaul a j) ≤ most
   unfolding overhaul
@@ -84,12 +83,9 @@ module _ (a : Kept) (h : KeptFits a) where
   unfolding overhaulsAt maintenance electricity
   added-le n l =
       let t = h .terms in
-      let count = t .overhauls .count in
       let due = overhauls-le n (a .terms .overhauls .count) (omega arith) in
       let m = inYear-le (a .discount) (a .terms .maintenance) (a .from) (suc n) positive (t .maintenance) in
       let e = inYear-le (a .discount) (a .terms .electricity) (a .from) (suc n) positive (t .electricity) in
-      let few = t .maintenance .amount in
-      let small = t .electricity .amount in
       rw (Sum.added-total (rounded (a .discount)) a n) (omega arith)
 
   pub walked-le : (n : ℕ) → n ≤ 300 → total (rounded (a .discount)) (walked a n) ≤ (10 * n + 1) * most

@@ -24,10 +24,10 @@ unfolding rounded once inYear repeated
 inYear-zero discount w t = refl
 
 inYear-suc :
-    (discount : ℕ) (w : Flow) (t n : ℕ)
-    → inService (w .grow) (w .age) discount (rounded discount (inYear w t n)) ≡ rounded discount (inYear w t (suc n))
+    (discount : ℕ) (w : Flow) (t n : ℕ) {a m : ℕ}
+    → a ≡ rounded discount (inYear w t n) → m ≡ inService (w .grow) (w .age) discount a → m ≡ rounded discount (inYear w t (suc n))
 unfolding rounded inYear repeated
-inYear-suc discount w t n = refl
+inYear-suc discount w t n now step = step ∙ ap (inService (w .grow) (w .age) discount) now
 
 -- a walk of which the figures are given
 abbrev pub walk : (cost maintenance electricity years : ℕ) → Walk
@@ -70,16 +70,14 @@ module _ (a : Kept) (w : Walk) (stands : w ≡ walkAt a (w .years)) (due m e : �
   next-maintenance : m ≡ rounded (a .discount) (maintenance a (suc (w .years)))
   unfolding maintenance
   next-maintenance =
-      let v = a .terms .maintenance in
-      let now = ap (λ (x : Walk). x .maintenance .0) stands ∙ walkAt-maintenance a (w .years) in
-      serves ∙ ap (inService (v .grow) (v .age) (a .discount)) now ∙ inYear-suc (a .discount) v (a .from) (w .years)
+      inYear-suc (a .discount) (a .terms .maintenance) (a .from) (w .years)
+      (ap (λ (x : Walk). x .maintenance .0) stands ∙ walkAt-maintenance a (w .years)) serves
 
   next-electricity : e ≡ rounded (a .discount) (electricity a (suc (w .years)))
   unfolding electricity
   next-electricity =
-      let v = a .terms .electricity in
-      let now = ap (λ (x : Walk). x .electricity .0) stands ∙ walkAt-electricity a (w .years) in
-      powers ∙ ap (inService (v .grow) (v .age) (a .discount)) now ∙ inYear-suc (a .discount) v (a .from) (w .years)
+      inYear-suc (a .discount) (a .terms .electricity) (a .from) (w .years)
+      (ap (λ (x : Walk). x .electricity .0) stands ∙ walkAt-electricity a (w .years)) powers
 
   next-cost : w .cost .0 + due + m + e ≡ total (rounded (a .discount)) (walked a (suc (w .years)))
   next-cost =
@@ -150,4 +148,4 @@ dueBy-all a n = refl
 
 pub dueBy-lt : (a : Kept) → KeptFits a → (n k : ℕ) → k ≤ a .terms .overhauls .count → dueBy a n k < 2 ^ 64
 unfolding dueBy
-dueBy-lt a h n k l = let few = h .terms .overhauls .count in let room = overhauls-le a h n k l in omega arith
+dueBy-lt a h n k l = let room = overhauls-le a h n k l in omega arith

@@ -11,8 +11,8 @@ use Rattle.costing.specs.declared.Kept.{Kept}
 use Rattle.costing.specs.Payment.{Payment, rounded, total}
 use Rattle.costing.specs.Exact.{exact}
 
--- An arc is an option kept from year t to year t + n. `kept` has the option's terms, the discount factor and t, `years` is n, and `horizon`
--- is T.
+-- An arc is an option kept from year t to year t + n. `kept` has the option's terms, the discount factor and t (all that is known of an
+-- arc before its end), `years` is n, and `horizon` is T.
 pub record Arc : Type 0 where
   pub kept : Kept
   pub years : ℕ
@@ -31,7 +31,7 @@ arcOf p option start end =
 unfoldable pub once : (amount grow year : ℕ) → Payment
 once amount grow year = record { amount = amount; grow = grow; age = 1_000_000; plainly = year; served = 0 }
 
--- what a flow pays in its k-th year of service, which began in year t
+-- what a flow, an amount paid each year with the factors of its rates, pays in its k-th year of service, which began in year t
 unfoldable pub inYear : Flow → (t k : ℕ) → Payment
 inYear w t k = record { amount = w .amount; grow = w .grow; age = w .age; plainly = t; served = k }
 
@@ -53,11 +53,12 @@ ageOf a j = getD (a .terms .overhauls .ages) j 0
 unfoldable pub overhaul : Kept → ℕ → Payment
 overhaul a j = once (getD (a .terms .overhauls .amounts) j 0) (a .terms .overhauls .grow) (a .from + ageOf a j)
 
--- the payments f 0, f 1, .., f (n − 1), each a list
+-- the payments of f 0, of f 1, .., of f (n − 1)
 unfoldable pub forEach : ℕ → (ℕ → List Payment) → List Payment
 forEach zero f = []
 forEach (suc n) f = forEach n f ++ f n
 
+-- a payment where something holds, else none
 unfoldable pub when : Bool → Payment → List Payment
 when holds p = cond holds (p ∷ []) []
 

@@ -3,6 +3,7 @@ use Prim.Native.Nat.{ℕ, _*_, _/_, _^_}
 use Rattle.costing.specs.Step.{repeated}
 use Rattle.costing.specs.Payment.{Payment}
 
+-- not reduced: a step multiplies both
 pub record Fraction : Type 0 where
   pub numerator : ℕ
   pub denominator : ℕ

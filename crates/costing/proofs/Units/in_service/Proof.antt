@@ -24,8 +24,6 @@ mul-nearest-2 c = rw (c .nearest .ensures) (omega (arith, aged-fits _ _ _ _ (c .
 
 nearest-requires-2 : tie.Need-nearest-requires-2
 nearest-requires-2 c κs =
-    let low = c .before .before .pre .plainly .low in
-    let high = c .before .before .pre .plainly .high in
     rw (c .nearest .ensures) (omega arith, omega arith, omega (arith, aged-fits _ _ _ _ (c .before .before .pre)))
 
 pub in-service-spec : {M : Type 1} → statement M

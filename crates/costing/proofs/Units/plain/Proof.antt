@@ -10,8 +10,6 @@ mul-nearest c = omega (arith, plain-room _ _ _ (c .before .pre))
 
 nearest-requires : tie.Need-nearest-requires
 nearest-requires c κs =
-    let low = c .before .pre .low in
-    let high = c .before .pre .high in
     (omega arith, omega arith, omega (arith, plain-room _ _ _ (c .before .pre)))
 
 returns : tie.Need-returns
