@@ -1,7 +1,7 @@
 -- What a payment is worth in units against its exact value, then the same for sums over lists of payments: they differ by at most one half
 -- of a unit for each plain step and two for each step in service. Between the two: the exact value over the common denominator is whole
 -- (`exact-whole`). Assumes nothing.
-use Prim.Native.Nat.{ℕ, zero, suc, _+_, _-_, _*_, _^_, _≤_, _<_, _∣_}
+use Prim.Native.Nat.{ℕ, zero, suc, _+_, _-_, _*_, _≤_, _<_, _∣_}
 use mathlib.Core.Path.{_≡_}
 use mathlib.Core.List.{List, [], _∷_}
 use native.Mathlib.Nat.{mul-le-mul-left, mul-le-mul-right, mul-assoc, mul-suc, mul-mul-mul-comm, add-zero, add-suc, pow-suc}
@@ -40,7 +40,7 @@ payment-error discount p ok =
 
 common-suc : (n discount : ℕ) → common (suc n) discount ≡ common n discount * (1_000_000 * discount)
 unfolding common
-common-suc n discount = rw (mul-suc 6 n, pow-add 10 (6 * n) 6, pow-suc discount) (mul-mul-mul-comm (10 ^ (6 * n)) _ _ discount)
+common-suc n discount = rw (mul-suc, pow-add 10, pow-suc discount) (mul-mul-mul-comm _ _ _ discount)
 
 -- k steps, each of which multiplies the denominator by a divisor of 10^6 × discount
 repeated-divides :
