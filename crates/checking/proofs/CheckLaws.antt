@@ -1,16 +1,14 @@
 -- The check's two loops follow `checked`: one law for a turn of each loop, and one for each way out. Assumes nothing.
 use Prim.Native.Nat.{ℕ, _+_, _≤_, _<_}
-use mathlib.Core.Path.{_≡_, sym, ap, _∙_}
+use mathlib.Core.Path.{_≡_, sym, _∙_}
 use mathlib.Core.List.{List}
 use mathlib.Core.Bool.{true, false}
 use mathlib.Core.Logic.{_↔_}
 use native.Mathlib.Omega.{arith}
-use lib.ListN.{getD}
 use Rattle.sheet.specs.Sheet.{OptionRecord, sheetOf}
-use Rattle.sheet.specs.Parsed.{termsOf, overhaulsOf, parsed}
-use Rattle.sheet.specs.declared.Terms.{Terms}
+use Rattle.sheet.specs.Parsed.{parsed}
 use Rattle.sheet.specs.declared.Sheet.{Sheet}
-use Rattle.sheet.proofs.ParsedLaws.{getD-options}
+use Rattle.sheet.proofs.ParsedLaws.{discount-read}
 use Rattle.checking.specs.Answer.{accepted, refused, _unless_else_, firstBelow}
 use Rattle.checking.specs.Refusals.{overhaulOk, overhaulAnswer, headerNumber, fieldsNumber, optionAnswer, checked}
 use Rattle.checking.specs.Passes.{Passes}
@@ -22,24 +20,12 @@ use Rattle.checking.proofs.PassesLaws.{header-iff, checked-iff}
 pub met : (s : List ℕ) (a b : Answer) → a ≡ b → b ≡ checked s → (a ≡ checked s) × ((a .number ≡ 0) ↔ Passes s)
 met s a b p q = (p ∙ q, rw (p ∙ q) (checked-iff s))
 
--- a sheet whose header passes, parsed
-module _ (s : List ℕ) (p : Sheet) (read : p ≡ parsed (sheetOf s)) where
-  pub discount-read : p .discount ≡ 1_000_000 + sheetOf s .rate
-  unfolding parsed
-  discount-read = ap (λ (q : Sheet). q .discount) read
-
-  pub discount-small : headerNumber s ≡ 0 → p .discount ≤ 1_200_000
-  discount-small h =
-      let d = discount-read in
-      let r = header-iff s .0 h .rate in
-      omega arith
-
-  pub terms-read : (k : ℕ) (other : Terms) → k < 3 → getD (p .options) k other ≡ termsOf (sheetOf s .option k)
-  terms-read k other h = rw read (getD-options (sheetOf s) k other h)
-
-  pub overhauls-read : (k : ℕ) (other : Terms) → k < 3 → getD (p .options) k other .overhauls ≡ overhaulsOf (sheetOf s .option k)
-  unfolding termsOf
-  overhauls-read k other h = ap (λ (t : Terms). t .overhauls) (terms-read k other h)
+-- the discount factor of a sheet whose header passes
+pub discount-small : (s : List ℕ) (p : Sheet) → p ≡ parsed (sheetOf s) → headerNumber s ≡ 0 → p .discount ≤ 1_200_000
+discount-small s p read h =
+    let d = discount-read p (sheetOf s) read in
+    let r = header-iff s .0 h .rate in
+    omega arith
 
 -- a turn of the inner loop
 pub next-overhaul :

@@ -85,16 +85,18 @@ terms-fit r o z h =
       overhauls = overhauls-fit r o h;
     }
 
+-- an option of a sheet that passes, over document 01's record
+pub option-fit : (s : List ℕ) → Passes s → (k : ℕ) → k < 3 → TermsFit (1_000_000 + sheetOf s .rate) (termsOf (sheetOf s .option k))
+option-fit s h k l = terms-fit (sheetOf s .rate) (sheetOf s .option k) (investment-ageing s k) (h .options k l)
+
 pub fit : (s : List ℕ) → Passes s → Fit (parsed (sheetOf s))
 unfolding parsed
 fit s h =
-    let r = sheetOf s .rate in
     let low = h .header .rate in
     record {
       horizonLow = h .header .horizon .0;
       horizonHigh = h .header .horizon .1;
       discountLow = omega arith;
       discountHigh = omega arith;
-      options = λ k other l.
-          rw (getD-options (sheetOf s) k other l) (terms-fit r (sheetOf s .option k) (investment-ageing s k) (h .options k l));
+      options = λ k other l. rw (getD-options (sheetOf s) k other l) (option-fit s h k l);
     }

@@ -1,6 +1,6 @@
 -- What `costed` answers: the ways in which `cost` ends, when it accepts, and the range of its answer. Assumes nothing.
 use Prim.Native.Nat.{ℕ, _+_, _-_, _≤_, _<_}
-use mathlib.Core.Path.{_≡_, refl, ap, sym, subst, _∙_}
+use mathlib.Core.Path.{_≡_, refl, ap, sym, _∙_}
 use mathlib.Core.List.{List}
 use mathlib.Core.Bool.{true, false, false≢true}
 use mathlib.Core.Logic.{_↔_}
@@ -9,20 +9,18 @@ use lib.Dec.{eqb}
 use lib.ListN.{getD}
 use borrow.Author.Tests.{eqb-true}
 use Rattle.sheet.specs.Sheet.{sheetOf}
-use Rattle.sheet.specs.Parsed.{termsOf, parsed}
+use Rattle.sheet.specs.Parsed.{parsed}
 use Rattle.sheet.specs.declared.Sheet.{Sheet}
 use Rattle.sheet.specs.declared.Terms.{Terms}
-use Rattle.sheet.proofs.ParsedLaws.{getD-options}
 use Rattle.checking.specs.Answer.{accepted, refused, InTable}
 use Rattle.checking.specs.Refusals.{checked}
 use Rattle.checking.specs.Passes.{Passes}
-use Rattle.checking.specs.Fit.{TermsFit}
 use Rattle.checking.specs.declared.Answer.{Answer}
 use Rattle.checking.proofs.TestLaws.{by-test}
 use Rattle.checking.proofs.AnswerLaws.{orElse-pass, orElse-stop, orElse-iff, orElse-all}
 use Rattle.checking.proofs.PassesLaws.{checked-iff}
 use Rattle.checking.proofs.RangeLaws.{checked-total, checked-range}
-use Rattle.checking.proofs.FitLaws.{fit}
+use Rattle.checking.proofs.FitLaws.{option-fit}
 use Rattle.costing.specs.Payment.{rounded, total}
 use Rattle.costing.specs.Arc.{arcOf, paid, payments, cost}
 use Rattle.costing.specs.Offered.{offered, Offered}
@@ -33,14 +31,7 @@ use Rattle.costing.specs.declared.Kept.{Kept}
 use Rattle.costing.proofs.SizeLaws.{paid-le}
 use Rattle.costing.proofs.ErrorOfArc.{ArcFits, payments-error, arc-error}
 use Rattle.costing.proofs.OfferedLaws.{offered-iff}
-use Rattle.costing.proofs.ReadLaws.{discount-read, terms-read}
-
--- what passing the checks gives of an option, over document 01's record
-option-fits : (s : List ℕ) → Passes s → (k : ℕ) → k < 3 → TermsFit (1_000_000 + sheetOf s .rate) (termsOf (sheetOf s .option k))
-unfolding parsed
-option-fits s h k l =
-    let other = termsOf (sheetOf s .option k) in
-    subst (TermsFit (1_000_000 + sheetOf s .rate)) (getD-options (sheetOf s) k other l) (fit s h .options k other l)
+use Rattle.sheet.proofs.ParsedLaws.{discount-read, terms-read}
 
 module _ (s : List ℕ) (option start end : ℕ) where
   -- the option as the code holds it
@@ -59,7 +50,7 @@ module _ (s : List ℕ) (option start end : ℕ) where
       record {
         low = omega arith;
         high = omega arith;
-        terms = option-fits s h option (omega arith);
+        terms = option-fit s h option (omega arith);
         from = omega arith;
       }
 

@@ -10,7 +10,8 @@ use Rattle.checking.specs.Answer.{accepted, firstBelow}
 use Rattle.checking.specs.Refusals.{headerNumber, fieldsNumber, overhaulOk, overhaulAnswer, optionAnswer}
 use Rattle.checking.proofs.AnswerLaws.{first-zero}
 use Rattle.checking.proofs.PassesLaws.{header-iff}
-use Rattle.checking.proofs.CheckLaws.{met, discount-read, discount-small, terms-read, overhauls-read, next-overhaul, next-option, header-refused, all-passed, fields-refused, overhaul-refused}
+use Rattle.sheet.proofs.ParsedLaws.{discount-read, terms-read, overhauls-read}
+use Rattle.checking.proofs.CheckLaws.{met, discount-small, next-overhaul, next-option, header-refused, all-passed, fields-refused, overhaul-refused}
 use Rattle.checking.proofs.check.Statement.{statement}
 use Rattle.checking.proofs.check.Tie as tie
 

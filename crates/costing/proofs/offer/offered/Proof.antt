@@ -9,7 +9,7 @@ use Rattle.sheet.specs.declared.Terms.{Terms}
 use Rattle.sheet.specs.Parsed.{termsOf}
 use Rattle.costing.specs.Offered.{placed, lengthOffered}
 use Rattle.costing.proofs.OfferedLaws.{Placed, placed-iff, offered-out, offered-in}
-use Rattle.costing.proofs.ReadLaws.{horizon-read, terms-read}
+use Rattle.sheet.proofs.ParsedLaws.{horizon-read, terms-read}
 use Rattle.costing.proofs.offer.offered.Statement.{statement}
 use Rattle.costing.proofs.offer.offered.Tie as tie
 
