@@ -18,7 +18,7 @@ use Rattle.costing.specs.Payment.{Payment, year, total}
 use Rattle.costing.specs.Exact.{common}
 use Rattle.costing.specs.Arc.{Arc, once, inYear, investment, maintenance, electricity, ageOf, overhaul, forEach, when}
 use Rattle.costing.specs.Arc.{overhaulsBelow, paid, payments, cost, exactCost}
-use Rattle.costing.specs.Walk.{overhaulsAt, added, walked}
+use Rattle.costing.specs.Walk.{atAge, overhaulsAt, added, walked}
 use Rattle.costing.specs.Error.{halves, PaymentNear, Every, allowance, WithinAllowance}
 use Rattle.costing.specs.Fit.{KeptFits}
 use Rattle.costing.proofs.SumLaws.{forEach-zero, forEach-suc, forEach-none, when-true, when-false}
@@ -94,10 +94,6 @@ unfolding payments
 payments-error a ok =
     every-map _ _ (λ p s. payment-error (a .kept .discount) p (s .rates)) (paid (a .kept) (a .years))
     (paid-sound (a .horizon) (a .kept) (ok .kept) (a .years) (ok .inside))
-
--- the i-th overhaul if it has age n
-abbrev atAge : Kept → (n i : ℕ) → List Payment
-atAge k n i = when (eqb (ageOf k i) n) (overhaul k i)
 
 allowance-suc : (y : ℕ) → allowance (suc y) ≡ allowance y + 10 * y + 8
 unfolding allowance

@@ -13,7 +13,7 @@ use Rattle.costing.specs.Step.{plain, repeated}
 use Rattle.costing.specs.Payment.{Payment, rounded, total}
 use Rattle.costing.specs.Arc.{once, inYear, investment, maintenance, electricity, ageOf, overhaul, forEach, when, paid}
 use Rattle.costing.specs.Fit.{ServiceFits, KeptFits}
-use Rattle.costing.specs.Walk.{overhaulsAt, added, walked}
+use Rattle.costing.specs.Walk.{atAge, overhaulsAt, added, walked}
 use Rattle.costing.specs.declared.Kept.{Kept}
 use Rattle.costing.proofs.RoomLaws.{plains-le, services-le}
 use Rattle.costing.proofs.SumLaws as Sum
@@ -74,7 +74,7 @@ module _ (a : Kept) (h : KeptFits a) where
   -- what the first k overhauls cost in year n
   pub overhauls-le :
       (n k : ℕ) → k ≤ a .terms .overhauls .count
-      → total (rounded (a .discount)) (forEach k (λ j. when (eqb (ageOf a j) n) (overhaul a j))) ≤ k * most
+      → total (rounded (a .discount)) (forEach k (atAge a n)) ≤ k * most
   overhauls-le n k l =
       forEach-le (rounded (a .discount)) most k _
       (λ j m. le-trans (when-le (rounded (a .discount)) (eqb (ageOf a j) n) (overhaul a j)) (overhaul-le j (omega arith)))

@@ -12,7 +12,7 @@ use Rattle.costing.specs.Step.{inService, repeated}
 use Rattle.costing.specs.Payment.{rounded, total}
 use Rattle.costing.specs.Arc.{once, inYear, investment, maintenance, electricity, ageOf, overhaul, forEach, when, paid}
 use Rattle.costing.specs.Fit.{KeptFits}
-use Rattle.costing.specs.Walk.{overhaulsAt, walked, walkAt}
+use Rattle.costing.specs.Walk.{atAge, overhaulsAt, walked, walkAt}
 use Rattle.costing.specs.declared.Kept.{Kept}
 use Rattle.costing.specs.declared.Walk.{Walk}
 use Rattle.costing.proofs.SumLaws as Sum
@@ -128,7 +128,7 @@ module _ (discount amount grow from age n : ℕ) where
 
 -- what the first k overhauls cost in year n of the arc
 unfoldable pub dueBy : Kept → (n k : ℕ) → ℕ
-dueBy a n k = total (rounded (a .discount)) (forEach k (λ j. when (eqb (ageOf a j) n) (overhaul a j)))
+dueBy a n k = total (rounded (a .discount)) (forEach k (atAge a n))
 
 pub dueBy-zero : (a : Kept) (n : ℕ) → 0 ≡ dueBy a n 0
 unfolding dueBy

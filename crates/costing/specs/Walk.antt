@@ -7,9 +7,12 @@ use Rattle.costing.specs.declared.Walk.{Walk}
 use Rattle.costing.specs.Payment.{Payment, rounded, total}
 use Rattle.costing.specs.Arc.{investment, maintenance, electricity, ageOf, overhaul, forEach, when}
 
--- the overhauls of age n
+-- the j-th overhaul if its age is n, and all overhauls of that age
+abbrev pub atAge : Kept → (n j : ℕ) → List Payment
+atAge a n j = when (eqb (ageOf a j) n) (overhaul a j)
+
 unfoldable pub overhaulsAt : Kept → ℕ → List Payment
-overhaulsAt a n = forEach (a .terms .overhauls .count) (λ j. when (eqb (ageOf a j) n) (overhaul a j))
+overhaulsAt a n = forEach (a .terms .overhauls .count) (atAge a n)
 
 -- what year n adds, from 0: the overhauls of that age, and a year of both flows
 unfoldable pub added : Kept → ℕ → List Payment
