@@ -95,7 +95,8 @@ payments-error a ok =
     every-map _ _ (λ p s. payment-error (a .kept .discount) p (s .rates)) (paid (a .kept) (a .years))
     (paid-sound (a .horizon) (a .kept) (ok .kept) (a .years) (ok .inside))
 
-allowance-suc : (y : ℕ) → allowance (suc y) ≡ allowance y + 10 * y + 8
+-- the allowance of one year
+allowance-suc : (y : ℕ) → allowance y + 10 * y + 8 ≤ allowance (suc y)
 unfolding allowance
 allowance-suc y = omega arith
 
@@ -138,11 +139,11 @@ module _ (k : Kept) (ok : KeptFits k) where
   -- by induction over the years
   walked-halves : (n : ℕ) → 2 * total halves (walked k (suc n)) + allowance (k .from) ≤ allowance (k .from + suc n)
   walked-halves zero =
-      rw (walked-suc halves, walked-zero halves, add-suc (k .from) 0, add-zero (k .from), allowance-suc)
-      (unfold investment once halves in omega (arith, added-halves 0))
+      rw (walked-suc halves, walked-zero halves, add-suc (k .from) 0, add-zero (k .from))
+      (unfold investment once halves in omega (arith, added-halves 0, allowance-suc (k .from)))
   walked-halves (suc n) =
-      rw (walked-suc halves, add-suc (k .from) (suc n), allowance-suc (k .from + suc n))
-      (omega (arith, walked-halves n, added-halves (suc n)))
+      rw (walked-suc halves, add-suc (k .from) (suc n))
+      (omega (arith, walked-halves n, added-halves (suc n), allowance-suc (k .from + suc n)))
 
   paid-halves : (n : ℕ) → 2 * total halves (paid k n) + allowance (k .from) ≤ allowance (k .from + n)
   paid-halves zero = rw (paid-zero halves, add-zero (k .from)) (omega arith)

@@ -33,9 +33,10 @@ module _ (n d : ℕ) (positive : 0 < d) where
       omega arith
 
   -- as the code computes it
-  pub divided-computed : (n + d / 2) / d ≡ divided n d
+  pub divided-computed : (half : ℕ) → half ≡ d / 2 → (n + half) / d ≡ divided n d
   unfolding divided
-  divided-computed = ap (λ (x : ℕ). x / d) (sym (mul-add-div (omega arith) n d)) ∙ div-div-eq-div-mul (2 * n + d) 2 d
+  divided-computed half e =
+      rw e (ap (λ (x : ℕ). x / d) (sym (mul-add-div (omega arith) n d)) ∙ div-div-eq-div-mul (2 * n + d) 2 d)
 
 pub divided-mono : (n m d : ℕ) → 0 < d → n ≤ m → divided n d ≤ divided m d
 unfolding divided

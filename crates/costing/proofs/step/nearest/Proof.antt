@@ -12,7 +12,7 @@ div-result : tie.Need-div-result
 div-result c = search needs
 
 returns : tie.Need-returns
-returns c = omega (arith, divided-computed (c .args .n) (c .args .d) (c .pre .0))
+returns c = divided-computed (c .args .n) (c .args .d) (c .pre .0) _ (omega arith)
 
 pub nearest-spec : {M : Type 1} → statement M
 nearest-spec = tie.close (tie.spec add-result div-result returns)
