@@ -15,15 +15,15 @@ use Rattle.checking.proofs.TestLaws.{by-test}
 use Rattle.costing.specs.declared.Kept.{Kept}
 use Rattle.costing.specs.Step.{above, below}
 use Rattle.costing.specs.Payment.{Payment, year, total}
-use Rattle.costing.specs.Exact.{common}
+use Rattle.costing.specs.Exact.{_over_, common}
 use Rattle.costing.specs.Arc.{Arc, once, inYear, investment, maintenance, electricity, ageOf, overhaul, forEach, when}
 use Rattle.costing.specs.Arc.{overhaulsBelow, paid, payments, cost, exactCost}
 use Rattle.costing.specs.Walk.{atAge, overhaulsAt, added, walked}
-use Rattle.costing.specs.Error.{halves, PaymentNear, Every, allowance, WithinAllowance}
+use Rattle.costing.specs.Error.{NearBy, halves, PaymentNear, Every, allowance, WithinAllowance}
 use Rattle.costing.specs.Fit.{KeptFits}
 use Rattle.costing.proofs.SumLaws.{forEach-zero, forEach-suc, forEach-none, when-true, when-false}
 use Rattle.costing.proofs.SumLaws.{added-total, walked-zero, walked-suc, walked-paid, paid-zero}
-use Rattle.costing.proofs.ErrorOfPayment.{Sound, Apart, payment-error, total-error}
+use Rattle.costing.proofs.ErrorOfPayment.{Sound, payment-error, total-error}
 
 -- an arc of an option that passes the checks, by the horizon
 pub record ArcFits (a : Arc) : Type 0 where
@@ -154,8 +154,8 @@ pub record Between (units e D A B : ℕ) : Type 0 where
   pub high : 4 * (units * D) + above * (A * D) ≤ 4 * e + above * (B * D)
   pub low : 4 * e + below * (A * D) ≤ 4 * (units * D) + below * (B * D)
 
-between-apart : {a e D W A B : ℕ} → Apart a e D W → 2 * W + A ≤ B → Between a e D A B
-between-apart {D = D} c h = omega (arith, mul-le-mul-left (above * D) h, mul-le-mul-left (below * D) h)
+between-near : {a e D A B : ℕ} (w : ℕ) → NearBy a (e over D) w → 2 * w + A ≤ B → Between a e D A B
+between-near {D = D} w c h = omega (arith, mul-le-mul-left (above * D) h, mul-le-mul-left (below * D) h)
 
 pub arc-between :
     (a : Arc) → ArcFits a
@@ -163,7 +163,7 @@ pub arc-between :
     (allowance (a .kept .from)) (allowance (a .kept .from + a .years))
 unfolding cost exactCost payments
 arc-between a ok =
-    between-apart
+    between-near (total halves (paid (a .kept) (a .years)))
     (total-error (a .horizon) (a .kept .discount) _ (paid-sound (a .horizon) (a .kept) (ok .kept) (a .years) (ok .inside)))
     (paid-halves (a .kept) (ok .kept) (a .years))
 

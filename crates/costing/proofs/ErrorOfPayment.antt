@@ -8,11 +8,11 @@ use native.Mathlib.Nat.{mul-le-mul-left, mul-le-mul-right, mul-assoc, mul-suc, m
 use native.Mathlib.Nat.{one-dvd, dvd-refl, dvd-trans, dvd-mul-left, mul-dvd-mul-left, mul-dvd-mul-right, div-mul-cancel}
 use native.Mathlib.Omega.{arith}
 use lib.Pow.{pow-add}
-use Rattle.costing.specs.Step.{above, below, repeated}
+use Rattle.costing.specs.Step.{repeated}
 use Rattle.costing.specs.Payment.{Payment, year, rounded, total}
-use Rattle.costing.specs.Exact.{Fraction, scaled, exactPlain, exactInService, unrounded, common, exact}
-use Rattle.costing.specs.Error.{Most, NearBy, halves, PaymentNear, Every}
-use Rattle.costing.proofs.ErrorOfRounding.{near-start, near-weaken}
+use Rattle.costing.specs.Exact.{Fraction, _over_, scaled, exactPlain, exactInService, unrounded, common, exact}
+use Rattle.costing.specs.Error.{NearBy, halves, PaymentNear, Every}
+use Rattle.costing.proofs.ErrorOfRounding.{near-start, near-weaken, near-lift, near-add}
 use Rattle.costing.proofs.ErrorOfStep.{Adds, plain-halves, inService-halves}
 
 -- what the checks give of a payment's factors
@@ -68,7 +68,7 @@ unrounded-divides horizon discount p h =
     let plainly = exactPlain (p .grow) discount in
     let served = exactInService (p .grow) (p .age) discount in
     let left = horizon - (p .plainly + p .served) in
-    let start : Fraction = record { numerator = p .amount * 10_000; denominator = 1 } in
+    let start = p .amount * 10_000 over 1 in
     let moved = repeated-divides discount plainly (plain-divides (p .grow) discount) (p .plainly) left start (one-dvd _) in
     let all : left + p .plainly + p .served ≡ horizon = omega arith in
     rw all at
@@ -82,25 +82,13 @@ pub exact-whole :
 unfolding exact
 exact-whole horizon discount p h = rw (mul-assoc, div-mul-cancel _ (unrounded-divides horizon discount p h))
 
--- a lies at most W halves of a unit from e / D
-pub record Apart (a e D W : ℕ) : Type 0 where
-  pub high : Most above (a * D) e (W * D)
-  pub low : Most below e (a * D) (W * D)
-
--- from a fraction to a multiple of its denominator
-apart-near : {a w : ℕ} {x : Fraction} (q D : ℕ) → q * x .denominator ≡ D → NearBy a x w → Apart a (x .numerator * q) D w
-apart-near q D e c = rw (← e) (omega (arith, mul-le-mul-left q (c .high), mul-le-mul-left q (c .low)))
-
-apart-add : {a b e f D U W : ℕ} → Apart a e D U → Apart b f D W → Apart (a + b) (e + f) D (U + W)
-apart-add c d = omega arith
-
 -- both values over the common denominator
 pub payment-over :
     (horizon discount : ℕ) (p : Payment) → Rates discount p → year p ≤ horizon
-    → Apart (rounded discount p) (exact horizon discount p) (common horizon discount) (halves p)
+    → NearBy (rounded discount p) (exact horizon discount p over common horizon discount) (halves p)
 unfolding exact
 payment-over horizon discount p ok h =
-    apart-near _ _ (div-mul-cancel _ (unrounded-divides horizon discount p h)) (payment-error discount p ok)
+    near-lift (halves p) _ _ (div-mul-cancel _ (unrounded-divides horizon discount p h)) (payment-error discount p ok)
 
 -- a payment that falls by the horizon, with factors that pass the checks
 pub record Sound (horizon discount : ℕ) (p : Payment) : Type 0 where
@@ -109,8 +97,8 @@ pub record Sound (horizon discount : ℕ) (p : Payment) : Type 0 where
 
 pub total-error :
     (horizon discount : ℕ) (ps : List Payment) → Every (Sound horizon discount) ps
-    → Apart (total (rounded discount) ps) (total (exact horizon discount) ps) (common horizon discount) (total halves ps)
+    → NearBy (total (rounded discount) ps) (total (exact horizon discount) ps over common horizon discount) (total halves ps)
 unfolding total
 total-error horizon discount [] ok = omega arith
 total-error horizon discount (p ∷ ps) ok =
-    apart-add (payment-over horizon discount p (ok .0 .rates) (ok .0 .by)) (total-error horizon discount ps (ok .1))
+    near-add (halves p) (total halves ps) (payment-over horizon discount p (ok .0 .rates) (ok .0 .by)) (total-error horizon discount ps (ok .1))

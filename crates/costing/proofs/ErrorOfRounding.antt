@@ -1,15 +1,16 @@
--- How far a rounded amount lies from a fraction: not at all at the start, and what one rounding adds, for all naturals with a positive
--- divisor. Assumes nothing.
+-- How far a rounded amount lies from a fraction: not at all at the start, what one rounding adds, for all naturals with a positive
+-- divisor, and sums over one denominator. Assumes nothing.
 use Prim.Native.Nat.{ℕ, _+_, _*_, _≤_, _<_}
+use mathlib.Core.Path.{_≡_}
 use native.Mathlib.Nat.{mul-le-mul-left}
 use native.Mathlib.Omega.{arith}
 use Rattle.costing.specs.Step.{divided, above, below}
-use Rattle.costing.specs.Exact.{Fraction, scaled}
-use Rattle.costing.specs.Error.{Near}
+use Rattle.costing.specs.Exact.{Fraction, _over_, scaled}
+use Rattle.costing.specs.Error.{Near, NearBy}
 use Rattle.costing.proofs.RoundingLaws.{divided-above, divided-below}
 
 -- an amount that has not been rounded yet
-pub near-start : (n : ℕ) → Near n (record { numerator = n; denominator = 1 }) 0
+pub near-start : (n : ℕ) → Near n (n over 1) 0
 near-start n = omega arith
 
 -- one rounding multiplies the allowance as it multiplies the fraction, and adds half a unit over the new denominator
@@ -27,3 +28,11 @@ near-divided n d a x W positive c =
 -- a larger allowance
 pub near-weaken : {a U W : ℕ} {x : Fraction} → U ≤ W → Near a x U → Near a x W
 near-weaken h c = omega (arith, mul-le-mul-left above h, mul-le-mul-left below h)
+
+-- from a fraction to a multiple of its denominator
+pub near-lift : {a : ℕ} {x : Fraction} (w q D : ℕ) → q * x .denominator ≡ D → NearBy a x w → NearBy a (x .numerator * q over D) w
+near-lift w q D e c = rw (← e) (omega (arith, mul-le-mul-left q (c .high), mul-le-mul-left q (c .low)))
+
+-- sums over one denominator
+pub near-add : {a b e f D : ℕ} (v w : ℕ) → NearBy a (e over D) v → NearBy b (f over D) w → NearBy (a + b) (e + f over D) (v + w)
+near-add v w c d = omega arith

@@ -8,9 +8,14 @@ pub record Fraction : Type 0 where
   pub numerator : ℕ
   pub denominator : ℕ
 
+-- e / D
+infix 10 _over_
+abbrev pub _over_ : (e D : ℕ) → Fraction
+e over D = record { numerator = e; denominator = D }
+
 -- a fraction × n / d
 unfoldable pub scaled : (n d : ℕ) → Fraction → Fraction
-scaled n d x = record { numerator = x .numerator * n; denominator = x .denominator * d }
+scaled n d x = x .numerator * n over x .denominator * d
 
 -- the two steps, by the same products and quotients
 unfoldable pub exactPlain : (grow discount : ℕ) → Fraction → Fraction
@@ -23,7 +28,7 @@ exactInService grow age discount x = exactPlain grow discount (scaled age 1_000_
 unfoldable pub unrounded : (discount : ℕ) → Payment → Fraction
 unrounded discount p =
     repeated (p .served) (exactInService (p .grow) (p .age) discount)
-    (repeated (p .plainly) (exactPlain (p .grow) discount) (record { numerator = p .amount * 10_000; denominator = 1 }))
+    (repeated (p .plainly) (exactPlain (p .grow) discount) (p .amount * 10_000 over 1))
 
 -- document 01's common denominator, 10^(6T) × (10^6 + r)^T
 unfoldable pub common : (horizon discount : ℕ) → ℕ
