@@ -21,8 +21,8 @@ use Rattle.checking.proofs.AnswerLaws.{orElse-pass, orElse-stop, orElse-iff, or
 use Rattle.checking.proofs.PassesLaws.{checked-iff}
 use Rattle.checking.proofs.RangeLaws.{checked-total, checked-range}
 use Rattle.checking.proofs.FitLaws.{option-fit}
-use Rattle.costing.specs.Payment.{rounded, total}
-use Rattle.costing.specs.Arc.{arcOf, paid, payments, cost}
+use Rattle.costing.specs.Payment.{total}
+use Rattle.costing.specs.Arc.{arcOf, paid, payments, cost, worth}
 use Rattle.costing.specs.Offered.{offered, Offered}
 use Rattle.costing.specs.Costing.{costing, costed}
 use Rattle.costing.specs.Error.{PaymentNear, Every, WithinAllowance}
@@ -57,9 +57,9 @@ module _ (s : List ℕ) (option start end : ℕ) where
   -- the cost of the arc, of the option that is kept
   pub cost-paid :
       (k : Kept) → k ≡ arcOf (sheetOf s) option start end .kept
-      → total (rounded (k .discount)) (paid k (end - start)) ≡ cost (arcOf (sheetOf s) option start end)
+      → worth k (paid k (end - start)) ≡ cost (arcOf (sheetOf s) option start end)
   unfolding cost payments arcOf
-  cost-paid k e = ap (λ (a : Kept). total (rounded (a .discount)) (paid a (end - start))) e
+  cost-paid k e = ap (λ (a : Kept). worth a (paid a (end - start))) e
 
   -- the ways out: refused by the check, not offered, offered
   pub cost-refused : (a : Answer) → a ≡ checked s → (a .number ≡ 0 → ⊥) → a ≡ costed s option start end

@@ -4,7 +4,7 @@
 use Prim.Native.Nat.{ℕ, zero, suc, _+_, _-_, _*_, _≤_, _<_, _∣_}
 use mathlib.Core.Path.{_≡_}
 use mathlib.Core.List.{List, [], _∷_}
-use native.Mathlib.Nat.{mul-le-mul-left, mul-le-mul-right, mul-assoc, mul-suc, mul-mul-mul-comm, add-zero, add-suc, pow-suc}
+use native.Mathlib.Nat.{mul-le-mul-right, mul-assoc, mul-suc, mul-mul-mul-comm, add-zero, add-suc, pow-suc}
 use native.Mathlib.Nat.{one-dvd, dvd-refl, dvd-trans, dvd-mul-left, mul-dvd-mul-left, mul-dvd-mul-right, div-mul-cancel}
 use native.Mathlib.Omega.{arith}
 use lib.Pow.{pow-add}

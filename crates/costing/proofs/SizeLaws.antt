@@ -11,7 +11,7 @@ use Rattle.sheet.specs.declared.Flow.{Flow}
 use Rattle.checking.specs.Fit.{FlowFits}
 use Rattle.costing.specs.Step.{plain, repeated}
 use Rattle.costing.specs.Payment.{Payment, rounded, total}
-use Rattle.costing.specs.Arc.{once, inYear, investment, maintenance, electricity, ageOf, overhaul, forEach, when, paid}
+use Rattle.costing.specs.Arc.{once, inYear, investment, maintenance, electricity, ageOf, overhaul, forEach, when, paid, worth}
 use Rattle.costing.specs.Fit.{ServiceFits, KeptFits}
 use Rattle.costing.specs.Walk.{atAge, overhaulsAt, added, walked}
 use Rattle.costing.specs.declared.Kept.{Kept}
@@ -74,12 +74,12 @@ module _ (a : Kept) (h : KeptFits a) where
   -- what the first k overhauls cost in year n
   pub overhauls-le :
       (n k : ℕ) → k ≤ a .terms .overhauls .count
-      → total (rounded (a .discount)) (forEach k (atAge a n)) ≤ k * most
+      → worth a (forEach k (atAge a n)) ≤ k * most
   overhauls-le n k l =
       forEach-le (rounded (a .discount)) most k _
       (λ j m. le-trans (when-le (rounded (a .discount)) (eqb (ageOf a j) n) (overhaul a j)) (overhaul-le j (omega arith)))
 
-  added-le : (n : ℕ) → n < 300 → total (rounded (a .discount)) (added a n) ≤ 10 * most
+  added-le : (n : ℕ) → n < 300 → worth a (added a n) ≤ 10 * most
   unfolding overhaulsAt maintenance electricity
   added-le n l =
       let t = h .terms in
@@ -88,7 +88,7 @@ module _ (a : Kept) (h : KeptFits a) where
       let e = inYear-le (a .discount) (a .terms .electricity) (a .from) (suc n) positive (t .electricity) in
       rw (Sum.added-total (rounded (a .discount)) a n) (omega arith)
 
-  pub walked-le : (n : ℕ) → n ≤ 300 → total (rounded (a .discount)) (walked a n) ≤ (10 * n + 1) * most
+  pub walked-le : (n : ℕ) → n ≤ 300 → worth a (walked a n) ≤ (10 * n + 1) * most
   walked-le zero l = rw (Sum.walked-zero (rounded (a .discount)) a) investment-le
     where
       investment-le : rounded (a .discount) (investment a) ≤ (10 * 0 + 1) * most
@@ -103,6 +103,6 @@ module _ (a : Kept) (h : KeptFits a) where
       rw (Sum.walked-suc (rounded (a .discount)) a n) (omega arith)
 
   -- an arc's cost is at most 11 payments a year
-  pub paid-le : (n : ℕ) → n ≤ 300 → total (rounded (a .discount)) (paid a n) ≤ n * (11 * most)
+  pub paid-le : (n : ℕ) → n ≤ 300 → worth a (paid a n) ≤ n * (11 * most)
   paid-le zero l = rw (Sum.paid-zero (rounded (a .discount)) a) (omega arith)
   paid-le (suc n) l = let whole = walked-le (suc n) l in rw (Sum.walked-paid (rounded (a .discount)) a n) (omega arith)

@@ -89,7 +89,9 @@ module _ (φ : Payment → ℕ) where
 
   pub walked-suc : (a : Kept) (n : ℕ) → total φ (walked a (suc n)) ≡ total φ (walked a n) + total φ (added a n)
   unfolding walked
-  walked-suc a n = omega (arith, total-cons (investment a) (forEach (suc n) (added a)), total-cons (investment a) (forEach n (added a)), forEach-suc n (added a))
+  walked-suc a n =
+      let first = total-cons (investment a) in
+      omega (arith, first (forEach (suc n) (added a)), first (forEach n (added a)), forEach-suc n (added a))
 
   abbrev parts : Kept → ℕ → ℕ
   parts a n =

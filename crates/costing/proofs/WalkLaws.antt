@@ -10,7 +10,7 @@ use borrow.Author.Tests.{eq-eqb, ne-eqb}
 use Rattle.sheet.specs.declared.Flow.{Flow}
 use Rattle.costing.specs.Step.{inService, repeated}
 use Rattle.costing.specs.Payment.{rounded, total}
-use Rattle.costing.specs.Arc.{once, inYear, investment, maintenance, electricity, ageOf, overhaul, forEach, when, paid}
+use Rattle.costing.specs.Arc.{once, inYear, investment, maintenance, electricity, ageOf, overhaul, forEach, when, paid, worth}
 use Rattle.costing.specs.Fit.{KeptFits}
 use Rattle.costing.specs.Walk.{atAge, overhaulsAt, walked, walkAt}
 use Rattle.costing.specs.declared.Kept.{Kept}
@@ -34,7 +34,7 @@ abbrev pub walk : (cost maintenance electricity years : ℕ) → Walk
 walk c m e n = record { cost = record { 0 = c }; maintenance = record { 0 = m }; electricity = record { 0 = e }; years = n }
 
 -- the fields of a walk that stands where it should
-pub walkAt-cost : (a : Kept) (n : ℕ) → walkAt a n .cost .0 ≡ total (rounded (a .discount)) (walked a n)
+pub walkAt-cost : (a : Kept) (n : ℕ) → walkAt a n .cost .0 ≡ worth a (walked a n)
 unfolding walkAt
 walkAt-cost a n = refl
 
@@ -64,7 +64,7 @@ walk-zero a p q s =
     λ i. walk (p' i) (q' i) (s' i) 0
 
 module _ (a : Kept) (w : Walk) (stands : w ≡ walkAt a (w .years)) (due m e : ℕ)
-    (falls : due ≡ total (rounded (a .discount)) (overhaulsAt a (w .years)))
+    (falls : due ≡ worth a (overhaulsAt a (w .years)))
     (serves : m ≡ inService (a .terms .maintenance .grow) (a .terms .maintenance .age) (a .discount) (w .maintenance .0))
     (powers : e ≡ inService (a .terms .electricity .grow) (a .terms .electricity .age) (a .discount) (w .electricity .0)) where
   next-maintenance : m ≡ rounded (a .discount) (maintenance a (suc (w .years)))
@@ -79,9 +79,9 @@ module _ (a : Kept) (w : Walk) (stands : w ≡ walkAt a (w .years)) (due m e : �
       inYear-suc (a .discount) (a .terms .electricity) (a .from) (w .years)
       (ap (λ (x : Walk). x .electricity .0) stands ∙ walkAt-electricity a (w .years)) powers
 
-  next-cost : w .cost .0 + due + m + e ≡ total (rounded (a .discount)) (walked a (suc (w .years)))
+  next-cost : w .cost .0 + due + m + e ≡ worth a (walked a (suc (w .years)))
   next-cost =
-      let now : w .cost .0 ≡ total (rounded (a .discount)) (walked a (w .years)) =
+      let now : w .cost .0 ≡ worth a (walked a (w .years)) =
       ap (λ (x : Walk). x .cost .0) stands ∙ walkAt-cost a (w .years) in
       rw (
         Sum.walked-suc (rounded (a .discount)) a (w .years),
@@ -103,7 +103,7 @@ module _ (a : Kept) (w : Walk) (stands : w ≡ walkAt a (w .years)) (due m e : �
   walk-room h l = let room = walked-le a h (suc (w .years)) (omega arith) in rw next-cost (omega arith)
 
 -- a walk of a year or more has paid its arc
-pub walk-paid : (a : Kept) (w : Walk) (n : ℕ) → w ≡ walkAt a n → 0 < n → w .cost .0 ≡ total (rounded (a .discount)) (paid a n)
+pub walk-paid : (a : Kept) (w : Walk) (n : ℕ) → w ≡ walkAt a n → 0 < n → w .cost .0 ≡ worth a (paid a n)
 walk-paid a w zero stands l = absurd (not-suc-le-zero l)
 walk-paid a w (suc n) stands l =
     ap (λ (x : Walk). x .cost .0) stands ∙ walkAt-cost a (suc n) ∙ sym (Sum.walked-paid (rounded (a .discount)) a n)
@@ -128,7 +128,7 @@ module _ (discount amount grow from age n : ℕ) where
 
 -- what the first k overhauls cost in year n of the arc
 unfoldable pub dueBy : Kept → (n k : ℕ) → ℕ
-dueBy a n k = total (rounded (a .discount)) (forEach k (atAge a n))
+dueBy a n k = worth a (forEach k (atAge a n))
 
 pub dueBy-zero : (a : Kept) (n : ℕ) → 0 ≡ dueBy a n 0
 unfolding dueBy
@@ -138,11 +138,11 @@ pub dueBy-suc :
     (a : Kept) (n k : ℕ)
     → let o = a .terms .overhauls in
     let age = getD (o .ages) k 0 in
-    dueBy a n k + total (rounded (a .discount)) (when (eqb age n) (once (getD (o .amounts) k 0) (o .grow) (a .from + age))) ≡ dueBy a n (k + 1)
+    dueBy a n k + worth a (when (eqb age n) (once (getD (o .amounts) k 0) (o .grow) (a .from + age))) ≡ dueBy a n (k + 1)
 unfolding dueBy overhaul ageOf
 dueBy-suc a n k = rw (add-one k) (sym (Sum.forEach-suc (rounded (a .discount)) k _))
 
-pub dueBy-all : (a : Kept) (n : ℕ) → dueBy a n (a .terms .overhauls .count) ≡ total (rounded (a .discount)) (overhaulsAt a n)
+pub dueBy-all : (a : Kept) (n : ℕ) → dueBy a n (a .terms .overhauls .count) ≡ worth a (overhaulsAt a n)
 unfolding dueBy overhaulsAt
 dueBy-all a n = refl
 

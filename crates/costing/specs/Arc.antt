@@ -79,9 +79,13 @@ paid a (suc n) =
 unfoldable pub payments : Arc → List Payment
 payments a = paid (a .kept) (a .years)
 
+-- what payments of an option cost in units
+abbrev pub worth : Kept → List Payment → ℕ
+worth a ps = total (rounded (a .discount)) ps
+
 -- an arc's cost in units, and its exact value over the common denominator: sums over the same payments
 unfoldable pub cost : Arc → ℕ
-cost a = total (rounded (a .kept .discount)) (payments a)
+cost a = worth (a .kept) (payments a)
 
 unfoldable pub exactCost : Arc → ℕ
 exactCost a = total (exact (a .horizon) (a .kept .discount)) (payments a)

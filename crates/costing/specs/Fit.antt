@@ -1,5 +1,5 @@
--- What the code of the steps asks so that 64 bits suffice. `RoomLaws.antt`, `SizeLaws.antt` and `CostLaws.antt` derive it from the facts of the check.
--- Definitions only.
+-- What the code of the steps asks so that 64 bits suffice. `RoomLaws.antt`, `SizeLaws.antt` and `CostLaws.antt` derive it from the facts
+-- of the check. Definitions only.
 use Prim.Native.Nat.{ℕ, _*_, _≤_}
 use Rattle.checking.specs.Fit.{TermsFit}
 use Rattle.costing.specs.declared.Kept.{Kept}

@@ -4,8 +4,8 @@ use mathlib.Core.List.{List, [], _∷_, _++_}
 use lib.Dec.{eqb}
 use Rattle.costing.specs.declared.Kept.{Kept}
 use Rattle.costing.specs.declared.Walk.{Walk}
-use Rattle.costing.specs.Payment.{Payment, rounded, total}
-use Rattle.costing.specs.Arc.{investment, maintenance, electricity, ageOf, overhaul, forEach, when}
+use Rattle.costing.specs.Payment.{Payment, rounded}
+use Rattle.costing.specs.Arc.{investment, maintenance, electricity, ageOf, overhaul, forEach, when, worth}
 
 -- the j-th overhaul if its age is n, and all overhauls of that age
 abbrev pub atAge : Kept → (n j : ℕ) → List Payment
@@ -26,7 +26,7 @@ walked a n = investment a ∷ forEach n (added a)
 unfoldable pub walkAt : Kept → ℕ → Walk
 walkAt a n =
     record {
-      cost = record { 0 = total (rounded (a .discount)) (walked a n) };
+      cost = record { 0 = worth a (walked a n) };
       maintenance = record { 0 = rounded (a .discount) (maintenance a n) };
       electricity = record { 0 = rounded (a .discount) (electricity a n) };
       years = n;

@@ -4,7 +4,7 @@ ghost use mathlib.Core.Path.{_≡_};
 ghost use Prim.Native.Nat.{_+_, _*_, _<_, _≤_};
 ghost use lib.Dec.{eqb};
 ghost use Rattle.costing.specs.Payment.{rounded, total};
-ghost use Rattle.costing.specs.Arc.{once, when, paid};
+ghost use Rattle.costing.specs.Arc.{once, when, paid, worth};
 ghost use Rattle.costing.specs.Fit.{PlainFits, KeptFits};
 ghost use Rattle.costing.specs.Walk.{overhaulsAt, walkAt};
 use crate::Kept;
@@ -34,7 +34,7 @@ impl Kept {
     // What the overhauls of age n cost.
     fn overhauls_at(self, n: u64) -> Units
         requires { ⌜ KeptFits self × (n ≤ 300) ⌝ }
-        ensures { λ r. ⌜ r .0 ≡ total (rounded (self .discount)) (overhaulsAt self n) ⌝ }
+        ensures { λ r. ⌜ r .0 ≡ worth self (overhaulsAt self n) ⌝ }
     {
         let terms = self.terms;
         let overhauls = terms.overhauls;
@@ -75,7 +75,7 @@ impl Kept {
     // The cost of an arc of that many years.
     pub fn cost(self, years: u64) -> Units
         requires { ⌜ KeptFits self × (years ≤ 300) ⌝ }
-        ensures { λ r. ⌜ r .0 ≡ total (rounded (self .discount)) (paid self years) ⌝ }
+        ensures { λ r. ⌜ r .0 ≡ worth self (paid self years) ⌝ }
     {
         if years == 0 {
             return Units(0);
@@ -93,7 +93,7 @@ impl Walk {
     pub fn year(self, kept: Kept, due: Units) -> Walk
         requires { ⌜ KeptFits kept × (self .years < 300) ⌝ }
         requires { ⌜ self ≡ walkAt kept (self .years) ⌝ }
-        requires { ⌜ due .0 ≡ total (rounded (kept .discount)) (overhaulsAt kept (self .years)) ⌝ }
+        requires { ⌜ due .0 ≡ worth kept (overhaulsAt kept (self .years)) ⌝ }
         ensures { λ r. ⌜ r ≡ walkAt kept (self .years + 1) ⌝ }
     {
         let terms = kept.terms;

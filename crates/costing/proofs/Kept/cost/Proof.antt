@@ -2,8 +2,7 @@
 use Prim.Native.Nat.{ℕ, _+_, _-_, _≤_}
 use mathlib.Core.Path.{_≡_, ap, sym, _∙_}
 use native.Mathlib.Omega.{arith}
-use Rattle.costing.specs.Payment.{rounded, total}
-use Rattle.costing.specs.Arc.{paid}
+use Rattle.costing.specs.Arc.{paid, worth}
 use Rattle.costing.specs.Walk.{overhaulsAt, walkAt}
 use Rattle.costing.proofs.SumLaws.{paid-zero}
 use Rattle.costing.proofs.WalkLaws.{walk-years, walk-stands, walk-paid}
@@ -23,7 +22,7 @@ returns-2 c =
     let some = c .before .before .before .before .if1 .left in
     let all : loop .n ≡ s .args .years = omega arith in
     walk-paid _ _ _ (loop .inv .1) (omega arith)
-    ∙ ap (λ (n : ℕ). total (rounded (s .args .self .discount)) (paid (s .args .self) n)) all
+    ∙ ap (λ (n : ℕ). worth (s .args .self) (paid (s .args .self) n)) all
 
 returns : tie.Need-returns Inv-loop μ-loop
 returns c = rw (c .if1 .taken) (sym (paid-zero _ _))
@@ -42,7 +41,7 @@ year-requires c κs =
     let s = c .before .before .before .before .before in
     let stands = c .before .before .loop .inv .1 in
     let years = walk-years (s .args .self) (c .before .before .loop .walk) _ stands in
-    let due : ℕ → ℕ = λ n. total (rounded (s .args .self .discount)) (overhaulsAt (s .args .self) n) in
+    let due : ℕ → ℕ = λ n. worth (s .args .self) (overhaulsAt (s .args .self) n) in
     ((s .pre .0, omega arith), (walk-stands _ _ _ stands, c .overhauls-at .ensures ∙ ap due (omega arith)))
 
 add-n : tie.Need-add-n Inv-loop μ-loop
