@@ -5,8 +5,9 @@ use Rattle.sheet.specs.Sheet.{expenseAt, onceAt, optionAt, sheetOf, factor}
 use Rattle.sheet.specs.Parsed.{flowOf, overhaulsOf, termsOf}
 use Rattle.checking.specs.Answer.{_unless_else_, firstBelow}
 use Rattle.checking.specs.Refusals.{inflationOk, inflationsOk, ageingOk, ageingsOk, ageBefore, overhaulOk, headerNumber, fieldsNumber, overhaulAnswer, optionAnswer, checked}
+use Rattle.costing.specs.Lists.{total}
 use Rattle.costing.specs.Step.{divided, plain, inService, repeated}
-use Rattle.costing.specs.Payment.{rounded, total}
+use Rattle.costing.specs.Payment.{rounded}
 use Rattle.costing.specs.Arc.{arcOf, once, inYear, investment, maintenance, electricity, ageOf, overhaul, forEach, when, overhaulsBelow, paid, payments, cost}
 use Rattle.costing.specs.Offered.{offered}
 use Rattle.costing.specs.Costing.{costing, costed}

@@ -12,14 +12,15 @@ use borrow.Author.Tests.{ltb-true, eqb-true, ne-eqb}
 use Rattle.sheet.specs.declared.Flow.{Flow}
 use Rattle.checking.specs.Fit.{FlowFits}
 use Rattle.checking.proofs.TestLaws.{by-test}
+use Rattle.costing.specs.Lists.{total, Every}
 use Rattle.costing.specs.declared.Kept.{Kept}
 use Rattle.costing.specs.Step.{above, below}
-use Rattle.costing.specs.Payment.{Payment, year, total}
+use Rattle.costing.specs.Payment.{Payment, year}
 use Rattle.costing.specs.Exact.{_over_, common}
 use Rattle.costing.specs.Arc.{Arc, once, inYear, investment, maintenance, electricity, ageOf, overhaul, forEach, when}
 use Rattle.costing.specs.Arc.{overhaulsBelow, paid, payments, cost, exactCost}
 use Rattle.costing.specs.Walk.{atAge, overhaulsAt, added, walked}
-use Rattle.costing.specs.Error.{NearBy, halves, PaymentNear, Every, allowance, WithinAllowance}
+use Rattle.costing.specs.Error.{NearBy, halves, PaymentNear, allowance, WithinAllowance}
 use Rattle.costing.specs.Fit.{KeptFits}
 use Rattle.costing.proofs.SumLaws.{forEach-zero, forEach-suc, forEach-none, when-true, when-false}
 use Rattle.costing.proofs.SumLaws.{added-total, walked-zero, walked-suc, walked-paid, paid-zero}
@@ -153,6 +154,10 @@ module _ (k : Kept) (ok : KeptFits k) where
 pub record Between (units e D A B : ℕ) : Type 0 where
   pub high : 4 * (units * D) + above * (A * D) ≤ 4 * e + above * (B * D)
   pub low : 4 * e + below * (A * D) ≤ 4 * (units * D) + below * (B * D)
+
+-- what lies between A and B and what lies between B and C add up to what lies between A and C
+pub between-add : {a b e f D A B C : ℕ} → Between a e D A B → Between b f D B C → Between (a + b) (e + f) D A C
+between-add h k = omega (arith, h .high, h .low, k .high, k .low)
 
 between-near : {a e D A B : ℕ} (w : ℕ) → NearBy a (e over D) w → 2 * w + A ≤ B → Between a e D A B
 between-near {D = D} w c h = omega (arith, mul-le-mul-left (above * D) h, mul-le-mul-left (below * D) h)

@@ -8,10 +8,11 @@ use native.Mathlib.Nat.{mul-le-mul-right, mul-assoc, mul-suc, mul-mul-mul-comm, 
 use native.Mathlib.Nat.{one-dvd, dvd-refl, dvd-trans, dvd-mul-left, mul-dvd-mul-left, mul-dvd-mul-right, div-mul-cancel}
 use native.Mathlib.Omega.{arith}
 use lib.Pow.{pow-add}
+use Rattle.costing.specs.Lists.{total, Every}
 use Rattle.costing.specs.Step.{repeated}
-use Rattle.costing.specs.Payment.{Payment, year, rounded, total}
+use Rattle.costing.specs.Payment.{Payment, year, rounded}
 use Rattle.costing.specs.Exact.{Fraction, _over_, scaled, exactPlain, exactInService, unrounded, common, exact}
-use Rattle.costing.specs.Error.{NearBy, halves, PaymentNear, Every}
+use Rattle.costing.specs.Error.{NearBy, halves, PaymentNear}
 use Rattle.costing.proofs.ErrorOfRounding.{near-start, near-weaken, near-lift, near-add}
 use Rattle.costing.proofs.ErrorOfStep.{Adds, plain-halves, inService-halves}
 

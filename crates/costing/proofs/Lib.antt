@@ -3,6 +3,7 @@
 --     RoundingLaws, RoomLaws: one rounding, and why a step fits in 64 bits; the steps' functions cite them
 --     SumLaws, SizeLaws, WalkLaws: sums over payments, how large they are, and the walk; the functions of an arc cite them
 --     ErrorOfRounding, ErrorOfStep, ErrorOfPayment, ErrorOfArc: the error of one rounding, of a step, of a payment and of an arc
+--     SheetArcLaws: an arc of a sheet
 --     OfferedLaws, CostLaws: what `cost` answers
 pub mod CaseLaws
 pub mod RoundingLaws
@@ -14,5 +15,6 @@ pub mod ErrorOfRounding
 pub mod ErrorOfStep
 pub mod ErrorOfPayment
 pub mod ErrorOfArc
+pub mod SheetArcLaws
 pub mod OfferedLaws
 pub mod CostLaws

@@ -9,18 +9,15 @@ use lib.Dec.{eqb}
 use lib.ListN.{getD}
 use Rattle.sheet.specs.declared.Flow.{Flow}
 use Rattle.checking.specs.Fit.{FlowFits}
+use Rattle.costing.specs.Lists.{total}
 use Rattle.costing.specs.Step.{plain, repeated}
-use Rattle.costing.specs.Payment.{Payment, rounded, total}
+use Rattle.costing.specs.Payment.{Payment, rounded}
 use Rattle.costing.specs.Arc.{once, inYear, investment, maintenance, electricity, ageOf, overhaul, forEach, when, paid, worth}
-use Rattle.costing.specs.Fit.{ServiceFits, KeptFits}
+use Rattle.costing.specs.Fit.{ServiceFits, KeptFits, most, yearly}
 use Rattle.costing.specs.Walk.{atAge, overhaulsAt, added, walked}
 use Rattle.costing.specs.declared.Kept.{Kept}
 use Rattle.costing.proofs.RoomLaws.{plains-le, services-le}
 use Rattle.costing.proofs.SumLaws as Sum
-
--- the most that one payment can be: 10^9 currency units, and a unit for each of 300 years in service
-abbrev pub most : ℕ
-most = 10_000_000_000_300
 
 pub once-le : (discount amount grow year : ℕ) → 0 < discount → grow ≤ discount → rounded discount (once amount grow year) ≤ amount * 10_000
 unfolding rounded once repeated
@@ -103,6 +100,6 @@ module _ (a : Kept) (h : KeptFits a) where
       rw (Sum.walked-suc (rounded (a .discount)) a n) (omega arith)
 
   -- an arc's cost is at most 11 payments a year
-  pub paid-le : (n : ℕ) → n ≤ 300 → worth a (paid a n) ≤ n * (11 * most)
+  pub paid-le : (n : ℕ) → n ≤ 300 → worth a (paid a n) ≤ n * yearly
   paid-le zero l = rw (Sum.paid-zero (rounded (a .discount)) a) (omega arith)
   paid-le (suc n) l = let whole = walked-le (suc n) l in rw (Sum.walked-paid (rounded (a .discount)) a n) (omega arith)

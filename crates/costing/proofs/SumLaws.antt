@@ -8,7 +8,8 @@ use native.Mathlib.Omega.{arith}
 use lib.Dec.{ltb, eqb}
 use borrow.Author.Tests.{lt-ltb, le-ltb, ne-eqb, ltb-true, ltb-false, eqb-true, eqb-false}
 use Rattle.checking.proofs.TestLaws.{by-test}
-use Rattle.costing.specs.Payment.{Payment, total}
+use Rattle.costing.specs.Lists.{total}
+use Rattle.costing.specs.Payment.{Payment}
 use Rattle.costing.specs.Arc.{investment, maintenance, electricity, ageOf, overhaul, forEach, when, overhaulsBelow, paid}
 use Rattle.costing.specs.Walk.{overhaulsAt, added, walked}
 use Rattle.costing.specs.declared.Kept.{Kept}

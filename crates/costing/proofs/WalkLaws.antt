@@ -8,8 +8,9 @@ use lib.Dec.{eqb}
 use lib.ListN.{getD}
 use borrow.Author.Tests.{eq-eqb, ne-eqb}
 use Rattle.sheet.specs.declared.Flow.{Flow}
+use Rattle.costing.specs.Lists.{total}
 use Rattle.costing.specs.Step.{inService, repeated}
-use Rattle.costing.specs.Payment.{rounded, total}
+use Rattle.costing.specs.Payment.{rounded}
 use Rattle.costing.specs.Arc.{once, inYear, investment, maintenance, electricity, ageOf, overhaul, forEach, when, paid, worth}
 use Rattle.costing.specs.Fit.{KeptFits}
 use Rattle.costing.specs.Walk.{atAge, overhaulsAt, walked, walkAt}

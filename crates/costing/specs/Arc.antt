@@ -7,8 +7,9 @@ use lib.ListN.{getD}
 use Rattle.sheet.specs.Sheet.{PlanningSheet}
 use Rattle.sheet.specs.Parsed.{termsOf}
 use Rattle.sheet.specs.declared.Flow.{Flow}
+use Rattle.costing.specs.Lists.{total}
 use Rattle.costing.specs.declared.Kept.{Kept}
-use Rattle.costing.specs.Payment.{Payment, rounded, total}
+use Rattle.costing.specs.Payment.{Payment, rounded}
 use Rattle.costing.specs.Exact.{exact}
 
 -- An arc is an option kept from year t to year t + n. `kept` has the option's terms, the discount factor and t (all that is known of an

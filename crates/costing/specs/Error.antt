@@ -1,6 +1,5 @@
 -- How far rounding may lead a payment and an arc astray. Definitions only.
 use Prim.Native.Nat.{ℕ, _+_, _*_, _≤_}
-use mathlib.Core.List.{List, [], _∷_}
 use Rattle.costing.specs.Step.{above, below}
 use Rattle.costing.specs.Payment.{Payment, rounded}
 use Rattle.costing.specs.Exact.{Fraction, unrounded, common}
@@ -26,11 +25,6 @@ halves p = p .plainly + 2 * p .served
 -- a payment's present value in units is that near to its exact value
 abbrev pub PaymentNear : (discount : ℕ) → Payment → Type 0
 PaymentNear discount p = NearBy (rounded discount p) (unrounded discount p) (halves p)
-
--- each payment of a list
-abbrev pub Every : (Payment → Type 0) → List Payment → Type 0
-Every S [] = Unit {0}
-Every S (p ∷ ps) = S p × Every S ps
 
 -- the error allowed from year 0 to year y, in quarters of a unit: 5y² + 3y
 unfoldable pub allowance : ℕ → ℕ

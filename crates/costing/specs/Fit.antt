@@ -23,3 +23,11 @@ pub record KeptFits (a : Kept) : Type 0 where
   pub high : a .discount ≤ 1_200_000
   pub terms : TermsFit (a .discount) (a .terms)
   pub from : a .from ≤ 300
+
+-- the most that one payment can be: 10^9 currency units, and a unit for each of 300 years in service
+abbrev pub most : ℕ
+most = 10_000_000_000_300
+
+-- the most that a year of an arc can cost: 11 payments
+abbrev pub yearly : ℕ
+yearly = 11 * most

@@ -1,4 +1,5 @@
 pub mod Step
+pub mod Lists
 pub mod Payment
 pub mod Exact
 pub mod Arc

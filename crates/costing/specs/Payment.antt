@@ -1,6 +1,5 @@
--- A payment, what it is worth in units, and sums over lists of payments. Definitions only.
+-- A payment, and what it is worth in units. Definitions only.
 use Prim.Native.Nat.{ℕ, _+_, _*_}
-use mathlib.Core.List.{List, [], _∷_}
 use Rattle.costing.specs.Step.{plain, inService, repeated}
 
 -- an amount in currency units at the price level of year 0, the factors of its rates, and the steps that move it to the year in which it
@@ -21,8 +20,3 @@ unfoldable pub rounded : (discount : ℕ) → Payment → ℕ
 rounded discount p =
     repeated (p .served) (inService (p .grow) (p .age) discount)
     (repeated (p .plainly) (plain (p .grow) discount) (p .amount * 10_000))
-
--- the sum of a figure over a list of payments
-unfoldable pub total : (Payment → ℕ) → List Payment → ℕ
-total figure [] = 0
-total figure (p ∷ ps) = figure p + total figure ps

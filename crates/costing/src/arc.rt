@@ -3,7 +3,8 @@
 ghost use mathlib.Core.Path.{_≡_};
 ghost use Prim.Native.Nat.{_+_, _*_, _<_, _≤_};
 ghost use lib.Dec.{eqb};
-ghost use Rattle.costing.specs.Payment.{rounded, total};
+ghost use Rattle.costing.specs.Lists.{total};
+ghost use Rattle.costing.specs.Payment.{rounded};
 ghost use Rattle.costing.specs.Arc.{once, when, paid, worth};
 ghost use Rattle.costing.specs.Fit.{PlainFits, KeptFits};
 ghost use Rattle.costing.specs.Walk.{overhaulsAt, walkAt};

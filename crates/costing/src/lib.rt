@@ -1,19 +1,24 @@
 // What an arc costs: document 01, 'One year's step' and 'What an arc costs'.
-// The public call is `cost`. The structs and their methods serve the crates above.
+// The public call is `cost`. The structs with their methods, `arc_cost` and `offer::offered` serve the crates above.
 
 ghost use mathlib.Core.Path.{_≡_};
 ghost use mathlib.Core.Logic.{_↔_};
-ghost use Rattle.sheet.specs.Sheet.{sheetOf};
+ghost use Prim.Native.Nat.{_-_, _*_, _≤_};
+ghost use Rattle.sheet.specs.Sheet.{PlanningSheet, sheetOf};
+ghost use Rattle.sheet.specs.Parsed.{parsed};
+ghost use Rattle.checking.specs.Fit.{Fit};
 ghost use Rattle.checking.specs.Passes.{Passes};
-ghost use Rattle.costing.specs.Arc.{arcOf};
+ghost use Rattle.costing.specs.Arc.{arcOf, cost};
 ghost use Rattle.costing.specs.Offered.{Offered};
 ghost use Rattle.costing.specs.Costing.{costed};
 ghost use Rattle.costing.specs.Error.{WithinAllowance};
+ghost use Rattle.costing.specs.Fit.{yearly};
 use checking::Answer;
+use sheet::Sheet;
 use sheet::Terms;
 
 mod arc;
-mod offer;
+pub mod offer;
 mod step;
 
 // A present value in units: a currency unit is 10,000 of them.
@@ -34,6 +39,21 @@ pub struct Walk {
     pub years: u64,
 }
 
+// The cost of an arc of a sheet that passes the checks.
+pub fn arc_cost(sheet: Sheet, option: u64, start: u64, end: u64) -> Units
+    requires { ⌜ Fit sheet × (option ≤ 2) × (start ≤ end) × (end ≤ sheet .horizon) ⌝ }
+    ensures units { λ r. ⌜ ((p : PlanningSheet) → sheet ≡ parsed p → r .0 ≡ cost (arcOf p option start end)) ⌝ }
+    ensures room { λ r. ⌜ r .0 ≤ (end - start) * yearly ⌝ }
+{
+    let terms = sheet.options[option as usize];
+    let kept = Kept {
+        terms: terms,
+        discount: sheet.discount,
+        from: start,
+    };
+    kept.cost(end - start)
+}
+
 // The cost of an arc: of an option kept from year start to year end.
 pub fn cost(sheet: &[u8], option: u64, start: u64, end: u64) -> Answer
     ensures answer { λ r. ⌜ r ≡ costed (now (sheet .entry)) option start end ⌝ }
@@ -48,12 +68,6 @@ pub fn cost(sheet: &[u8], option: u64, start: u64, end: u64) -> Answer
     if !offer::offered(parsed, option, start, end) {
         return checking::refused(13, 3);
     }
-    let terms = parsed.options[option as usize];
-    let kept = Kept {
-        terms: terms,
-        discount: parsed.discount,
-        from: start,
-    };
-    let units = kept.cost(end - start);
+    let units = arc_cost(parsed, option, start, end);
     checking::accepted(units.0)
 }

@@ -3,7 +3,7 @@
 
 ghost use mathlib.Core.Path.{_≡_};
 ghost use mathlib.Core.Logic.{_↔_};
-ghost use Prim.Native.Nat.{_<_};
+ghost use Prim.Native.Nat.{ℕ, _<_};
 ghost use Rattle.sheet.specs.Sheet.{sheetOf};
 ghost use Rattle.checking.specs.Answer.{InTable};
 ghost use Rattle.checking.specs.Refusals.{checked};
@@ -12,6 +12,9 @@ ghost use Rattle.costing.specs.Arc.{arcOf};
 ghost use Rattle.costing.specs.Offered.{Offered};
 ghost use Rattle.costing.specs.Costing.{costed};
 ghost use Rattle.costing.specs.Error.{WithinAllowance};
+ghost use Rattle.chain.specs.PlanBytes.{decode};
+ghost use Rattle.chain.specs.Pricing.{priced, PricedAt};
+ghost use Rattle.chain.specs.Error.{TotalNear};
 ghost use Rattle.nimovalsa.specs.Packed.{totalIn, numberIn, Returns};
 use checking::Answer;
 
@@ -40,4 +43,14 @@ pub extern "C" fn nimovalsa_cost(sheet: &[u8], option: u64, start: u64, end: u64
     ensures near { λ r. ⌜ (numberIn r ≡ 0 → WithinAllowance (arcOf (sheetOf (now (sheet .entry))) option start end) (totalIn r)) ⌝ }
 {
     pack(costing::cost(sheet, option, start, end))
+}
+
+// Pricing a plan: the rounded total of its chain in units, and the number and the option of the refusal table.
+#[no_mangle]
+pub extern "C" fn nimovalsa_price(sheet: &[u8], plan: &[u8]) -> u64
+    ensures answer { λ r. ⌜ Returns r (priced (now (sheet .entry)) (now (plan .entry))) ⌝ }
+    ensures accepted { λ r. ⌜ ((total : ℕ) → ((numberIn r ≡ 0) × (totalIn r ≡ total)) ↔ PricedAt (now (sheet .entry)) (now (plan .entry)) total) ⌝ }
+    ensures near { λ r. ⌜ (numberIn r ≡ 0 → TotalNear (sheetOf (now (sheet .entry))) (decode (now (plan .entry))) (totalIn r)) ⌝ }
+{
+    pack(chain::price(sheet, plan))
 }

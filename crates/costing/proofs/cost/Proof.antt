@@ -5,14 +5,16 @@ use native.Mathlib.Omega.{arith}
 use borrow.Author.Needs.{needs}
 use borrow.Author.Tests.{not-true, not-false}
 use Rattle.sheet.specs.Sheet.{sheetOf}
+use Rattle.sheet.proofs.ParsedLaws.{horizon-read}
 use Rattle.checking.specs.Answer.{accepted}
 use Rattle.checking.specs.Refusals.{checked}
 use Rattle.checking.specs.Passes.{Passes}
+use Rattle.checking.specs.Fit.{Fit}
 use Rattle.checking.specs.declared.Answer.{Answer}
+use Rattle.checking.proofs.FitLaws.{fit}
 use Rattle.costing.specs.Offered.{offered, Offered}
-use Rattle.costing.specs.Fit.{KeptFits}
 use Rattle.costing.proofs.OfferedLaws.{offered-iff}
-use Rattle.costing.proofs.CostLaws.{kept-read, kept-fits, cost-paid, cost-refused, cost-unoffered, cost-offered, met}
+use Rattle.costing.proofs.CostLaws.{cost-refused, cost-unoffered, cost-offered, met}
 use Rattle.costing.proofs.cost.Statement.{statement}
 use Rattle.costing.proofs.cost.Tie as tie
 
@@ -57,34 +59,20 @@ returns-2 c =
     let out = sym (d .offered .ensures _ (d .before .parse .ensures)) ∙ not-true _ (c .before .if2 .taken) in
     met _ _ _ _ _ (c .refused .ensures ∙ cost-unoffered _ _ _ _ (passed (d .before .before)) out)
 
-mul-terms : tie.Need-mul-terms
-mul-terms c = let known = offers c .known in omega arith
-
-element-copy-out-terms : tie.Need-element-copy-out-terms
-element-copy-out-terms c = let known = offers c .known in omega arith
-
-sub-cost : tie.Need-sub-cost
-sub-cost c = offers (c .before) .forward
-
-cost-requires : tie.Need-cost-requires
-cost-requires c κs =
-    let d = c .before .before .before in
-    let o = offers (c .before) in
-    let known = o .known in
-    let inside = o .inside in
-    let h = passes (d .before) in
-    let horizon = h .header .horizon .1 in
-    (subst KeptFits (sym (kept-read _ _ _ _ _ _ (d .parse .ensures) (omega arith))) (kept-fits _ _ _ _ h o), omega arith)
+arc-cost-requires : tie.Need-arc-cost-requires
+arc-cost-requires c κs =
+    let d = c .before .before in
+    let o = offers c in
+    (subst Fit (sym (d .parse .ensures)) (fit _ (passes (d .before))), o .known, o .forward, omega (arith, horizon-read _ _ (d .parse .ensures), o .inside))
 
 accepted-requires : tie.Need-accepted-requires
 accepted-requires c κs = search needs
 
 returns-3 : tie.Need-returns-3
 returns-3 c =
-    let d = c .before .before .before in
+    let d = c .before .before in
     let e = d .before .before in
-    let known = offers d .known in
-    let units = c .before .cost .ensures ∙ cost-paid _ _ _ _ _ (kept-read _ _ _ _ _ _ (e .parse .ensures) (omega arith)) in
+    let units = c .before .arc-cost .ensures .0 _ (e .parse .ensures) in
     met _ _ _ _ _ (c .accepted .ensures ∙ ap accepted (omega (arith, units)) ∙ cost-offered _ _ _ _ (passed (e .before)) (found d))
 
 pub cost-spec : {M : Type 1} → statement M
@@ -97,9 +85,6 @@ cost-spec =
     offered-requires
     refused-requires
     returns-2
-    mul-terms
-    element-copy-out-terms
-    sub-cost
-    cost-requires
+    arc-cost-requires
     accepted-requires
     returns-3)

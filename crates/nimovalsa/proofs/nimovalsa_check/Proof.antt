@@ -2,6 +2,7 @@
 use lib.Dec.{lit<}
 use Rattle.checking.proofs.RangeLaws.{checked-range, checked-total}
 use borrow.Author.Needs.{needs}
+use Rattle.nimovalsa.proofs.PackedLaws.{returns-same}
 use Rattle.nimovalsa.proofs.nimovalsa_check.Statement.{statement}
 use Rattle.nimovalsa.proofs.nimovalsa_check.Tie as tie
 
@@ -14,7 +15,7 @@ pack-requires c κs = rw (c .check .ensures .0) (checked-range _, rw checked-tot
 returns : tie.Need-returns
 returns c =
     let a = c .before .check .ensures in
-    (rw (← a .0) (c .pack .ensures), rw (c .pack .ensures .number) (a .1))
+    (returns-same (a .0) (c .pack .ensures), rw (c .pack .ensures .number) (a .1))
 
 pub nimovalsa-check-spec : {M : Type 1} → statement M
 nimovalsa-check-spec = tie.close (tie.spec check-requires pack-requires returns)

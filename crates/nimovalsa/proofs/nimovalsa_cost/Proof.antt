@@ -1,6 +1,7 @@
 -- `nimovalsa_cost` returns what `cost` answers; the answer packs, since an arc costs less than 2^56 units. Assumes nothing.
 use Rattle.costing.proofs.CostLaws.{costed-range, costed-lt}
 use borrow.Author.Needs.{needs}
+use Rattle.nimovalsa.proofs.PackedLaws.{returns-same}
 use Rattle.nimovalsa.proofs.nimovalsa_cost.Statement.{statement}
 use Rattle.nimovalsa.proofs.nimovalsa_cost.Tie as tie
 
@@ -14,7 +15,7 @@ returns : tie.Need-returns
 returns c =
     let a = c .before .cost .ensures in
     let r = c .pack .ensures in
-    (rw (← a .0) r, (rw (r .number) (a .1 .0), rw (r .number, r .total) (a .1 .1)))
+    (returns-same (a .0) r, (rw (r .number) (a .1 .0), rw (r .number, r .total) (a .1 .1)))
 
 pub nimovalsa-cost-spec : {M : Type 1} → statement M
 nimovalsa-cost-spec = tie.close (tie.spec cost-requires pack-requires returns)

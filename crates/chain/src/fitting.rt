@@ -1,0 +1,64 @@
+// Whether plan bytes are a feasible chain of a sheet: row 14 of document 01's refusal table.
+
+ghost use mathlib.Core.Path.{_≡_};
+ghost use Prim.Native.Nat.{_+_, _*_, _≤_};
+ghost use lib.ListN.{length};
+ghost use Rattle.sheet.specs.Sheet.{PlanningSheet};
+ghost use Rattle.sheet.specs.Parsed.{parsed};
+ghost use Rattle.chain.specs.PlanBytes.{endsAt};
+ghost use Rattle.chain.specs.Fitting.{shaped, reaches, fitting};
+use sheet::Sheet;
+use sheet::fields;
+
+// Whether the bytes have a plan's length, mark and version.
+fn shaped(plan: &[u8]) -> bool
+    ensures { λ b. ⌜ b ≡ shaped (now (plan .entry)) ⌝ }
+{
+    if plan.len() < 19 {
+        return false;
+    }
+    let m = fields::u16_at(plan, 17);
+    let version = fields::u16_at(plan, 3);
+    (plan.len() as u64 == 19 + 2 * m)
+        & ((plan[0] == 82) & (plan[1] == 67) & (plan[2] == 80))
+        & (version == 1)
+}
+
+// Whether replacements lead from a year to the horizon: that many, whose ends stand from byte 19 on.
+fn reaches(sheet: Sheet, start: u64, plan: &[u8], count: usize) -> bool
+    requires { ⌜ 19 + 2 * count ≤ length (now plan) ⌝ }
+    ensures { λ b. ⌜ ((p : PlanningSheet) → sheet ≡ parsed p → b ≡ reaches p start (endsAt (now (plan .entry)) 19 count)) ⌝ }
+{
+    let mut year = start;
+    let mut at: usize = 19;
+    let mut left = count;
+    while 0 < left {
+        let end = fields::u16_at(plan, at);
+        if !costing::offer::offered(sheet, 2, year, end) {
+            return false;
+        }
+        year = end;
+        at += 2;
+        left -= 1;
+    }
+    year == sheet.horizon
+}
+
+// Whether plan bytes are a feasible chain of the sheet.
+pub fn plan_fits(sheet: Sheet, plan: &[u8]) -> bool
+    ensures { λ b. ⌜ ((p : PlanningSheet) → sheet ≡ parsed p → b ≡ fitting p (now (plan .entry))) ⌝ }
+{
+    if !shaped(plan) {
+        return false;
+    }
+    let i = fields::u16_at(plan, 13);
+    if !costing::offer::offered(sheet, 0, 0, i) {
+        return false;
+    }
+    let j = fields::u16_at(plan, 15);
+    if !costing::offer::offered(sheet, 1, i, j) {
+        return false;
+    }
+    let count = fields::u16_at(plan, 17);
+    reaches(sheet, j, plan, count as usize)
+}
