@@ -84,7 +84,7 @@ static inline unsigned nimovalsa_option(uint64_t answer)
  *     it may be any pointer, also NULL.
  *   - nothing changes those bytes during the call.
  *   - NIMOVALSA_CHECK_STACK bytes of stack are free. The call was measured
- *     to use 1,408 bytes; tests/c/boundary.c measures it again and fails
+ *     to use 1,408 bytes; tests/c measures it again and fails
  *     above the figure here. It is not proved.
  */
 #define NIMOVALSA_CHECK_STACK 2048
@@ -117,7 +117,7 @@ uint64_t nimovalsa_check(const uint8_t *sheet, size_t length);
  * written, and nothing is kept between calls.
  *
  * Duties of the caller: those of nimovalsa_check, with NIMOVALSA_COST_STACK
- * bytes of stack. The call was measured to use 3,760; tests/c/boundary.c
+ * bytes of stack. The call was measured to use 3,760; tests/c
  * measures it again and fails above the figure here. It is not proved.
  */
 #define NIMOVALSA_COST_STACK 8192

@@ -1,0 +1,129 @@
+/*
+ * What the files of this folder share: calls of the library between
+ * unreadable pages and on a measured stack (harness.c), sheets by field
+ * (sheets.c), and the tests of each call.
+ */
+#ifndef BOUNDARY_H
+#define BOUNDARY_H
+
+#include <nimovalsa.h>
+
+#include <stddef.h>
+#include <stdint.h>
+
+enum {
+    OPTIONS = 3,
+    NO_OPTION = 3,
+
+    /* answers without a total */
+    ACCEPTED = 0 * 4 + NO_OPTION,
+    REFUSED_LENGTH = 1 * 4 + NO_OPTION,
+    REFUSED_ARC = 13 * 4 + NO_OPTION,
+
+    LONGEST_INPUT = 4096
+};
+
+#define COUNT(table) (sizeof(table) / sizeof *(table))
+
+struct bytes {
+    const uint8_t *at;
+    size_t length;
+};
+
+/* ---- harness.c: failure ---- */
+
+/* Names the case that runs now; it is printed with a failure. */
+void name_case(const char *format, ...) __attribute__((format(printf, 1, 2)));
+
+void stop_unless(int done, const char *what);
+
+/* ---- harness.c: calls ---- */
+
+typedef uint64_t library_call(struct bytes sheet);
+
+struct subject {
+    const char *name;
+    library_call *call;
+    size_t stack_named; /* by the header */
+    size_t stack_used;  /* the most seen */
+};
+
+extern unsigned long calls;
+
+/* Before every other call. */
+void start_harness(void);
+
+/* The answer with the sheet ending where an unreadable page begins, and with
+ * it beginning where an unreadable page ends. */
+void expect_answer(struct subject *subject, struct bytes sheet,
+                   uint64_t answer);
+
+/* The answer with the sheet where it is. */
+void expect_answer_here(struct subject *subject, struct bytes sheet,
+                        uint64_t answer);
+
+void test_stack(const struct subject *subject);
+
+/* ---- sheets.c ---- */
+
+enum {
+    /* the sheet's head */
+    MARK = 0,
+    VERSION = 3,
+    HORIZON = 5,
+    RATE = 7,
+    RECORDS = 11,
+
+    /* an option record, from its own beginning */
+    SHORTEST = 0,
+    LONGEST = 2,
+    INVESTMENT = 4,
+    INVESTMENT_INFLATION = 8,
+    MAINTENANCE = 12,
+    MAINTENANCE_INFLATION = 16,
+    MAINTENANCE_AGEING = 20,
+    ELECTRICITY = 24,
+    ELECTRICITY_INFLATION = 28,
+    ELECTRICITY_AGEING = 32,
+    OVERHAUL_INFLATION = 36,
+    OVERHAUL_COUNT = 40,
+    OVERHAULS = 41,
+    RECORD_BYTES = 89,
+
+    /* an overhaul, from its own beginning */
+    AGE = 0,
+    AMOUNT = 2,
+    OVERHAUL_BYTES = 6
+};
+
+#define OVERHAUL(entry) (OVERHAULS + OVERHAUL_BYTES * (entry))
+
+/* The low bytes of a value, the lowest first. */
+void put(uint8_t *at, size_t bytes, int64_t value);
+void put16(uint8_t *at, int64_t value);
+void put32(uint8_t *at, int64_t value);
+
+uint8_t *record_of(uint8_t *sheet, unsigned option);
+
+/* All but the head becomes zero. */
+void put_head(uint8_t *sheet, int64_t horizon, int64_t rate);
+void put_lives(uint8_t *record, int64_t shortest, int64_t longest);
+void put_overhaul(uint8_t *record, unsigned entry, int64_t age, int64_t amount);
+
+typedef void make_sheet(uint8_t *sheet);
+
+make_sheet make_middle_sheet, make_limit_sheet, make_empty_sheet;
+
+/* ---- the tests of each call ---- */
+
+extern struct subject checking, costing;
+
+void test_checking(void);
+void test_costing(void);
+
+/* What checking answers, a call of costing answers too: with the empty arc,
+ * and on a refused sheet with a faulty one. On an accepted sheet a faulty arc
+ * is refused. */
+void expect_costing(struct bytes sheet, uint64_t answer);
+
+#endif

@@ -1,0 +1,245 @@
+/*
+ * Every sheet is passed twice: once ending where an unreadable page begins,
+ * once beginning where an unreadable page ends. Its own page is read-only
+ * during the call. A read outside the sheet or a write anywhere near it is
+ * then a memory fault, which is reported under the name of the case.
+ *
+ * Every call runs on a stack that was filled with one byte value. The lowest
+ * byte that changed tells how much stack the call used.
+ */
+#include "boundary.h"
+
+#include <signal.h>
+#include <stdarg.h>
+#include <stdio.h>
+#include <stdlib.h>
+#include <string.h>
+#include <sys/mman.h>
+#include <ucontext.h>
+#include <unistd.h>
+
+enum { STACK_BYTES = 64 * 1024 };
+
+/* ---- failure ---- */
+
+/* The case that runs now, and the line that a memory fault in it prints. */
+static char case_name[128];
+static char fault_line[256];
+
+void name_case(const char *format, ...)
+{
+    va_list words;
+
+    va_start(words, format);
+    vsnprintf(case_name, sizeof case_name, format, words);
+    va_end(words);
+    snprintf(fault_line, sizeof fault_line,
+             "c boundary: %s: memory fault: a read outside the sheet, "
+             "a write, or too much stack\n",
+             case_name);
+}
+
+void stop_unless(int done, const char *what)
+{
+    if (!done) {
+        fprintf(stderr, "c boundary: %s: %s failed\n", case_name, what);
+        exit(1);
+    }
+}
+
+static void on_fault(int signal_number)
+{
+    ssize_t written = write(STDERR_FILENO, fault_line, strlen(fault_line));
+
+    (void)signal_number;
+    (void)written;
+    _exit(1);
+}
+
+/* The handler has a stack of its own: the fault may lie in the stack. */
+static void catch_faults(void)
+{
+    static unsigned char handler_stack[64 * 1024];
+    stack_t other = {.ss_sp = handler_stack, .ss_size = sizeof handler_stack};
+    struct sigaction action = {.sa_handler = on_fault, .sa_flags = SA_ONSTACK};
+
+    stop_unless(sigaltstack(&other, NULL) == 0, "sigaltstack");
+    stop_unless(sigaction(SIGSEGV, &action, NULL) == 0, "sigaction");
+    stop_unless(sigaction(SIGBUS, &action, NULL) == 0, "sigaction");
+}
+
+/* ---- memory between two unreadable pages ---- */
+
+struct room {
+    unsigned char *begin;
+    size_t bytes; /* a multiple of the page */
+};
+
+static struct room make_room(size_t least)
+{
+    size_t page = (size_t)sysconf(_SC_PAGESIZE);
+    size_t bytes = (least + page - 1) / page * page;
+    unsigned char *all = mmap(NULL, bytes + 2 * page, PROT_NONE,
+                              MAP_PRIVATE | MAP_ANONYMOUS, -1, 0);
+    struct room room;
+
+    stop_unless(all != MAP_FAILED, "mmap");
+    room.begin = all + page;
+    room.bytes = bytes;
+    return room;
+}
+
+static void allow(struct room room, int access)
+{
+    stop_unless(mprotect(room.begin, room.bytes, access) == 0, "mprotect");
+}
+
+/* ---- a call on a painted stack ---- */
+
+static struct {
+    library_call *call;
+    struct bytes sheet;
+    uint64_t answer;
+} job;
+
+static struct room stack;
+static ucontext_t outside, inside;
+
+static void do_job(void)
+{
+    job.answer = job.call(job.sheet);
+}
+
+/* The bytes from the stack's top down to the lowest one that changed. */
+static size_t touched(unsigned char paint)
+{
+    size_t clean = 0;
+
+    while (clean < stack.bytes && stack.begin[clean] == paint)
+        clean++;
+    return stack.bytes - clean;
+}
+
+static size_t run_job(unsigned char paint)
+{
+    memset(stack.begin, paint, stack.bytes);
+    stop_unless(getcontext(&inside) == 0, "getcontext");
+    inside.uc_stack.ss_sp = stack.begin;
+    inside.uc_stack.ss_size = stack.bytes;
+    inside.uc_link = &outside;
+    makecontext(&inside, do_job, 0);
+    stop_unless(swapcontext(&outside, &inside) == 0, "swapcontext");
+    return touched(paint);
+}
+
+/* ---- the stack that is not the call's ---- */
+
+/* Two paints are used, since a byte may be overwritten by its own paint. */
+enum { PAINT_AT_END = 0xA5, PAINT_AT_START = 0x5A };
+
+static size_t stack_of_no_work;
+
+__attribute__((noinline)) static uint64_t no_work(struct bytes sheet)
+{
+    (void)sheet;
+    return 0;
+}
+
+static void measure_no_work(void)
+{
+    size_t one, other;
+
+    job.call = no_work;
+    one = run_job(PAINT_AT_END);
+    other = run_job(PAINT_AT_START);
+    stack_of_no_work = one > other ? one : other;
+}
+
+/* ---- one expectation ---- */
+
+static struct room sheet_room; /* a sheet stands in it during the call */
+unsigned long calls;
+
+static void note_stack(struct subject *subject, size_t used)
+{
+    if (used > stack_of_no_work + subject->stack_used)
+        subject->stack_used = used - stack_of_no_work;
+}
+
+static void print_answer(const char *before, uint64_t answer)
+{
+    fprintf(stderr, "%s number %u option %u total %llu", before,
+            nimovalsa_number(answer), nimovalsa_option(answer),
+            (unsigned long long)nimovalsa_total(answer));
+}
+
+static void call_and_compare(struct subject *subject, struct bytes sheet,
+                             unsigned char paint, uint64_t answer)
+{
+    job.call = subject->call;
+    job.sheet = sheet;
+    note_stack(subject, run_job(paint));
+    calls++;
+    if (job.answer != answer) {
+        fprintf(stderr, "c boundary: %s: %s:", case_name, subject->name);
+        print_answer(" expected", answer);
+        print_answer(", got", job.answer);
+        fprintf(stderr, "\n");
+        exit(1);
+    }
+}
+
+static struct bytes place(struct room room, struct bytes content, size_t offset)
+{
+    unsigned char *at = room.begin + offset;
+
+    allow(room, PROT_READ | PROT_WRITE);
+    memset(room.begin, 0xEE, room.bytes);
+    if (content.length > 0)
+        memcpy(at, content.at, content.length);
+    allow(room, PROT_READ);
+    return (struct bytes){at, content.length};
+}
+
+static struct bytes at_end(struct room room, struct bytes content)
+{
+    return place(room, content, room.bytes - content.length);
+}
+
+static struct bytes at_start(struct room room, struct bytes content)
+{
+    return place(room, content, 0);
+}
+
+void expect_answer(struct subject *subject, struct bytes sheet, uint64_t answer)
+{
+    call_and_compare(subject, at_end(sheet_room, sheet), PAINT_AT_END, answer);
+    call_and_compare(subject, at_start(sheet_room, sheet), PAINT_AT_START,
+                     answer);
+}
+
+void expect_answer_here(struct subject *subject, struct bytes sheet,
+                        uint64_t answer)
+{
+    call_and_compare(subject, sheet, PAINT_AT_END, answer);
+}
+
+void test_stack(const struct subject *subject)
+{
+    if (subject->stack_used > subject->stack_named) {
+        fprintf(stderr,
+                "c boundary: stack: %s used %zu bytes, the header says %zu\n",
+                subject->name, subject->stack_used, subject->stack_named);
+        exit(1);
+    }
+}
+
+void start_harness(void)
+{
+    name_case("start");
+    catch_faults();
+    sheet_room = make_room(LONGEST_INPUT);
+    stack = make_room(STACK_BYTES);
+    allow(stack, PROT_READ | PROT_WRITE);
+    measure_no_work();
+}

@@ -1,0 +1,97 @@
+/* Sheets by field. */
+#include "boundary.h"
+
+#include <string.h>
+
+void put(uint8_t *at, size_t bytes, int64_t value)
+{
+    uint64_t rest = (uint64_t)value;
+
+    for (size_t i = 0; i < bytes; i++) {
+        at[i] = (uint8_t)(rest % 256);
+        rest /= 256;
+    }
+}
+
+void put16(uint8_t *at, int64_t value)
+{
+    put(at, 2, value);
+}
+
+void put32(uint8_t *at, int64_t value)
+{
+    put(at, 4, value);
+}
+
+uint8_t *record_of(uint8_t *sheet, unsigned option)
+{
+    return sheet + RECORDS + RECORD_BYTES * option;
+}
+
+void put_head(uint8_t *sheet, int64_t horizon, int64_t rate)
+{
+    memset(sheet, 0, NIMOVALSA_SHEET_BYTES);
+    memcpy(sheet + MARK, "RCS", 3);
+    put16(sheet + VERSION, 1);
+    put16(sheet + HORIZON, horizon);
+    put32(sheet + RATE, rate);
+}
+
+void put_lives(uint8_t *record, int64_t shortest, int64_t longest)
+{
+    put16(record + SHORTEST, shortest);
+    put16(record + LONGEST, longest);
+}
+
+void put_overhaul(uint8_t *record, unsigned entry, int64_t age, int64_t amount)
+{
+    put16(record + OVERHAUL(entry) + AGE, age);
+    put32(record + OVERHAUL(entry) + AMOUNT, amount);
+}
+
+/* r 40,000, every f and g 0, three overhauls: far from most limits. */
+void make_middle_sheet(uint8_t *sheet)
+{
+    put_head(sheet, 30, 40000);
+    for (unsigned option = 0; option < OPTIONS; option++) {
+        uint8_t *record = record_of(sheet, option);
+
+        put_lives(record, 2, 20);
+        put32(record + INVESTMENT, 5000);
+        put32(record + MAINTENANCE, 300);
+        put32(record + ELECTRICITY, 400);
+        put(record + OVERHAUL_COUNT, 1, 3);
+        put_overhaul(record, 0, 5, 100);
+        put_overhaul(record, 1, 10, 200);
+        put_overhaul(record, 2, 15, 300);
+    }
+}
+
+/* Every field at a limit: T, r, lives, amounts, rates, eight overhauls. */
+void make_limit_sheet(uint8_t *sheet)
+{
+    put_head(sheet, 300, 200000);
+    for (unsigned option = 0; option < OPTIONS; option++) {
+        uint8_t *record = record_of(sheet, option);
+
+        put_lives(record, 1, 120);
+        put32(record + INVESTMENT, 1000000000);
+        put32(record + INVESTMENT_INFLATION, 200000);
+        put32(record + MAINTENANCE, 1000000000);
+        put32(record + MAINTENANCE_INFLATION, -100000);
+        put32(record + MAINTENANCE_AGEING, 300000);
+        put32(record + ELECTRICITY, 1000000000);
+        put32(record + ELECTRICITY_INFLATION, -100000);
+        put32(record + ELECTRICITY_AGEING, 300000);
+        put32(record + OVERHAUL_INFLATION, 200000);
+        put(record + OVERHAUL_COUNT, 1, 8);
+        for (unsigned entry = 0; entry < 8; entry++)
+            put_overhaul(record, entry, 112 + entry, 1000000000);
+    }
+}
+
+/* Only the head is not zero; no option is offered. */
+void make_empty_sheet(uint8_t *sheet)
+{
+    put_head(sheet, 1, 0);
+}
