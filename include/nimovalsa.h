@@ -18,6 +18,17 @@
  * Both lives 0: the option is not offered; its record is checked all the
  * same. An overhaul at or past the count is all zero bytes.
  *
+ * A plan says which chain of activities is taken, in 19 + 2m bytes, in this
+ * order, likewise little-endian:
+ *
+ *   mark "RCP"; version u16, which is 1; total u64;
+ *   year i u16; year j u16; number of replacements m u16;
+ *   m end years, each u16.
+ *
+ * Maintain runs from year 0 to i, renovate from i to j, the first replacement
+ * from j to the first end year, each later one from the end year before it to
+ * its own.
+ *
  * Every call returns one number, its answer:
  *
  *   total * 256 + number * 4 + option
@@ -39,6 +50,9 @@ extern "C" {
 #endif
 
 #define NIMOVALSA_SHEET_BYTES 278
+
+/* The length of a plan with m replacements. */
+#define NIMOVALSA_PLAN_BYTES(m) (19 + 2 * (size_t)(m))
 
 /* The three parts of an answer. */
 static inline uint64_t nimovalsa_total(uint64_t answer)
@@ -84,8 +98,8 @@ static inline unsigned nimovalsa_option(uint64_t answer)
  *     it may be any pointer, also NULL.
  *   - nothing changes those bytes during the call.
  *   - NIMOVALSA_CHECK_STACK bytes of stack are free. The call was measured
- *     to use 1,408 bytes; tests/c measures it again and fails
- *     above the figure here. It is not proved.
+ *     to use 1,408 bytes; tests/c measures it again and fails above the figure
+ *     here. It is not proved.
  */
 #define NIMOVALSA_CHECK_STACK 2048
 
@@ -117,13 +131,46 @@ uint64_t nimovalsa_check(const uint8_t *sheet, size_t length);
  * written, and nothing is kept between calls.
  *
  * Duties of the caller: those of nimovalsa_check, with NIMOVALSA_COST_STACK
- * bytes of stack. The call was measured to use 3,760; tests/c
- * measures it again and fails above the figure here. It is not proved.
+ * bytes of stack. The call was measured to use 3,760; tests/c measures it again
+ * and fails above the figure here. It is not proved.
  */
 #define NIMOVALSA_COST_STACK 8192
 
 uint64_t nimovalsa_cost(const uint8_t *sheet, size_t length, uint64_t option,
                         uint64_t start, uint64_t end);
+
+/*
+ * Prices a plan: the total is the sum of what the arcs of its chain cost, in
+ * units, each as nimovalsa_cost answers it. The number is that of the first
+ * fault, or 0 if there is none. Faults are looked for in the order 1 to 9, as
+ * nimovalsa_check answers them, then:
+ *
+ *  14  plan_length below 19 or not 19 + 2m; or the plan's mark or version
+ *      wrong; or not a feasible chain
+ *
+ * A chain is feasible if i <= j, the end years rise and the first is above j;
+ * if no year is above T, and the last activity ends at T: the last end year is
+ * T, or j is T where m is 0; and if each length lies between its option's
+ * shortest and longest life. Maintain and renovate may also have length 0,
+ * which costs 0, also where both lives are 0.
+ *
+ * The chain need not be one of least total. The plan's total field is not
+ * looked at: whatever it holds, the answer is the same.
+ *
+ * Buffers: sheet and plan are only read, nothing is written, and nothing is
+ * kept between calls. They may overlap.
+ *
+ * Duties of the caller, which the call cannot check:
+ *   - sheet points to sheet_length readable bytes and plan to plan_length, each
+ *     at any alignment. With length 0 it may be any pointer, also NULL.
+ *   - nothing changes those bytes during the call.
+ *   - NIMOVALSA_PRICE_STACK bytes of stack are free; tests/c measures what the
+ *     call uses and fails above the figure here. It is not proved.
+ */
+#define NIMOVALSA_PRICE_STACK 8192
+
+uint64_t nimovalsa_price(const uint8_t *sheet, size_t sheet_length,
+                         const uint8_t *plan, size_t plan_length);
 
 #ifdef __cplusplus
 }

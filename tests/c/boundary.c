@@ -1,8 +1,8 @@
 /*
- * Calls nimovalsa_check and nimovalsa_cost from C on good, damaged, short and
- * long sheets, costing arcs with and without fault, and compares each answer
- * with the refusal table and the costs of document 01. harness.c says how the
- * memory around a call is watched.
+ * Calls nimovalsa_check, nimovalsa_cost and nimovalsa_price from C on good,
+ * damaged, short and long sheets and plans, and on arcs with and without
+ * fault. Compares each answer with the refusal table, the costs and the totals
+ * of document 01. harness.c says how the memory around a call is watched.
  *
  * Status: 0 if all is as expected, 1 if not, 2 for wrong use.
  */
@@ -19,10 +19,14 @@ int main(int argc, char **argv)
     start_harness();
     test_checking();
     test_costing();
+    test_chains();
+    test_pricing();
     test_stack(&checking);
     test_stack(&costing);
+    test_stack(&pricing);
     printf("c boundary: %lu calls as expected, stack %zu bytes for "
-           "nimovalsa_check, %zu for nimovalsa_cost\n",
-           calls, checking.stack_used, costing.stack_used);
+           "nimovalsa_check, %zu for nimovalsa_cost, %zu for "
+           "nimovalsa_price\n",
+           calls, checking.stack_used, costing.stack_used, pricing.stack_used);
     return 0;
 }

@@ -19,8 +19,11 @@ enum {
     ACCEPTED = 0 * 4 + NO_OPTION,
     REFUSED_LENGTH = 1 * 4 + NO_OPTION,
     REFUSED_ARC = 13 * 4 + NO_OPTION,
+    REFUSED_PLAN = 14 * 4 + NO_OPTION,
 
-    LONGEST_INPUT = 4096
+    LONGEST_SHEET = 4096,
+    MOST_ENDS = 65535,
+    LONGEST_PLAN = 19 + 2 * MOST_ENDS + 3
 };
 
 #define COUNT(table) (sizeof(table) / sizeof *(table))
@@ -39,7 +42,12 @@ void stop_unless(int done, const char *what);
 
 /* ---- harness.c: calls ---- */
 
-typedef uint64_t library_call(struct bytes sheet);
+/* What a call reads; calls that read no plan get an empty one. */
+struct input {
+    struct bytes sheet, plan;
+};
+
+typedef uint64_t library_call(struct input input);
 
 struct subject {
     const char *name;
@@ -53,13 +61,17 @@ extern unsigned long calls;
 /* Before every other call. */
 void start_harness(void);
 
-/* The answer with the sheet ending where an unreadable page begins, and with
- * it beginning where an unreadable page ends. */
-void expect_answer(struct subject *subject, struct bytes sheet,
+/* The answer with sheet and plan each ending where an unreadable page begins,
+ * and with each beginning where an unreadable page ends. */
+void expect_answer(struct subject *subject, struct input input,
                    uint64_t answer);
 
-/* The answer with the sheet where it is. */
-void expect_answer_here(struct subject *subject, struct bytes sheet,
+/* The answer with sheet and plan at these distances from their page. */
+void expect_answer_at(struct subject *subject, struct input input,
+                      size_t sheet_offset, size_t plan_offset, uint64_t answer);
+
+/* The answer with sheet and plan where they are. */
+void expect_answer_here(struct subject *subject, struct input input,
                         uint64_t answer);
 
 void test_stack(const struct subject *subject);
@@ -112,18 +124,50 @@ void put_overhaul(uint8_t *record, unsigned entry, int64_t age, int64_t amount);
 
 typedef void make_sheet(uint8_t *sheet);
 
-make_sheet make_middle_sheet, make_limit_sheet, make_empty_sheet;
+make_sheet make_middle_sheet, make_limit_sheet, make_empty_sheet,
+    make_paper_sheet;
 
 /* ---- the tests of each call ---- */
 
-extern struct subject checking, costing;
+extern struct subject checking, costing, pricing;
 
 void test_checking(void);
 void test_costing(void);
+void test_chains(void);  /* pricing, by the plan's chain */
+void test_pricing(void); /* pricing, by the plan's bytes */
 
-/* What checking answers, a call of costing answers too: with the empty arc,
- * and on a refused sheet with a faulty one. On an accepted sheet a faulty arc
- * is refused. */
+/* On a sheet where checking answers this, costing and pricing answer the same
+ * if it is a refusal, whatever the arc or plan. On an accepted sheet the empty
+ * arc costs 0; a faulty arc or plan is refused. */
 void expect_costing(struct bytes sheet, uint64_t answer);
+void expect_pricing(struct bytes sheet, uint64_t answer);
+
+/* ---- chains.c ---- */
+
+struct chain {
+    uint16_t i, j, m;
+    uint16_t ends[6];
+};
+
+enum {
+    /* a plan; its mark and version are where the sheet has them */
+    PLAN_TOTAL = 5,
+    MAINTAINED = 13,
+    RENOVATED = 15,
+    REPLACEMENTS = 17,
+    ENDS = 19
+};
+
+/* An accepted answer. */
+#define PRICED(units) (UINT64_C(256) * (units) + ACCEPTED)
+
+#define END(entry) (ENDS + 2 * (entry))
+
+/* Mark, version, a total that is no chain's, and the years; all of it zero
+ * behind the head but the ends. */
+struct bytes put_plan(uint8_t *plan, const struct chain *chain);
+
+/* m ends, the first at a year, the others each that many years later. */
+struct bytes put_even_plan(uint8_t *plan, uint16_t years, uint16_t m);
 
 #endif

@@ -7,9 +7,9 @@
 
 #include <string.h>
 
-static uint64_t check_sheet(struct bytes sheet)
+static uint64_t check_sheet(struct input input)
 {
-    return nimovalsa_check(sheet.at, sheet.length);
+    return nimovalsa_check(input.sheet.at, input.sheet.length);
 }
 
 struct subject checking = {"nimovalsa_check", check_sheet,
@@ -18,11 +18,12 @@ struct subject checking = {"nimovalsa_check", check_sheet,
 static void expect(const uint8_t *sheet, size_t length, unsigned number,
                    unsigned option)
 {
-    struct bytes input = {sheet, length};
+    struct input input = {.sheet = {sheet, length}};
     uint64_t answer = number * 4 + option;
 
     expect_answer(&checking, input, answer);
-    expect_costing(input, answer);
+    expect_costing(input.sheet, answer);
+    expect_pricing(input.sheet, answer);
 }
 
 /* The number that is expected after one field of a good sheet got a value. */
@@ -239,8 +240,8 @@ static void test_order(void)
 /* Lengths other than the sheet's, with a good sheet at the beginning. */
 static void test_lengths(void)
 {
-    static const size_t longer[] = {279, 302, LONGEST_INPUT};
-    static uint8_t input[LONGEST_INPUT];
+    static const size_t longer[] = {279, 302, LONGEST_SHEET};
+    static uint8_t input[LONGEST_SHEET];
 
     make_middle_sheet(input);
     for (size_t length = 0; length < NIMOVALSA_SHEET_BYTES; length++) {
@@ -252,7 +253,8 @@ static void test_lengths(void)
         expect(input, longer[i], 1, NO_OPTION);
     }
     name_case("NULL with length 0");
-    expect_answer_here(&checking, (struct bytes){NULL, 0}, REFUSED_LENGTH);
+    expect_answer_here(&checking, (struct input){.sheet = {NULL, 0}},
+                       REFUSED_LENGTH);
 }
 
 /* The sheet stands in memory that may be written. */
@@ -263,8 +265,8 @@ static void test_sheet_unchanged(void)
     name_case("sheet unchanged by checking");
     make_limit_sheet(sheet);
     memcpy(before, sheet, sizeof sheet);
-    expect_answer_here(&checking, (struct bytes){sheet, sizeof sheet},
-                       ACCEPTED);
+    expect_answer_here(
+        &checking, (struct input){.sheet = {sheet, sizeof sheet}}, ACCEPTED);
     stop_unless(memcmp(before, sheet, sizeof sheet) == 0, "comparison");
 }
 

@@ -14,10 +14,10 @@ struct arc {
 /* The arc that is costed now. */
 static struct arc arc;
 
-static uint64_t cost_arc(struct bytes sheet)
+static uint64_t cost_arc(struct input input)
 {
-    return nimovalsa_cost(sheet.at, sheet.length, arc.option, arc.start,
-                          arc.end);
+    return nimovalsa_cost(input.sheet.at, input.sheet.length, arc.option,
+                          arc.start, arc.end);
 }
 
 struct subject costing = {"nimovalsa_cost", cost_arc, NIMOVALSA_COST_STACK, 0};
@@ -25,7 +25,7 @@ struct subject costing = {"nimovalsa_cost", cost_arc, NIMOVALSA_COST_STACK, 0};
 static void expect(struct arc now, struct bytes sheet, uint64_t answer)
 {
     arc = now;
-    expect_answer(&costing, sheet, answer);
+    expect_answer(&costing, (struct input){.sheet = sheet}, answer);
 }
 
 /* Every accepted sheet has this arc, at cost 0. */
@@ -189,7 +189,8 @@ static void test_null(void)
 {
     name_case("NULL with length 0");
     arc = empty_arc;
-    expect_answer_here(&costing, (struct bytes){NULL, 0}, REFUSED_LENGTH);
+    expect_answer_here(&costing, (struct input){.sheet = {NULL, 0}},
+                       REFUSED_LENGTH);
 }
 
 /* The sheet stands in memory that may be written. */
@@ -202,7 +203,7 @@ static void test_sheet_unchanged(void)
     make_limit_sheet(sheet);
     memcpy(before, sheet, sizeof sheet);
     arc = longest->arc;
-    expect_answer_here(&costing, (struct bytes){sheet, sizeof sheet},
+    expect_answer_here(&costing, (struct input){.sheet = {sheet, sizeof sheet}},
                        longest->answer);
     stop_unless(memcmp(before, sheet, sizeof sheet) == 0, "comparison");
 }

@@ -1,7 +1,7 @@
 /*
- * Every sheet is passed twice: once ending where an unreadable page begins,
- * once beginning where an unreadable page ends. Its own page is read-only
- * during the call. A read outside the sheet or a write anywhere near it is
+ * Every sheet and plan is passed twice: once ending where an unreadable page
+ * begins, once beginning where an unreadable page ends. Its own pages are
+ * read-only during the call. A read outside it or a write anywhere near it is
  * then a memory fault, which is reported under the name of the case.
  *
  * Every call runs on a stack that was filled with one byte value. The lowest
@@ -34,8 +34,8 @@ void name_case(const char *format, ...)
     vsnprintf(case_name, sizeof case_name, format, words);
     va_end(words);
     snprintf(fault_line, sizeof fault_line,
-             "c boundary: %s: memory fault: a read outside the sheet, "
-             "a write, or too much stack\n",
+             "c boundary: %s: memory fault: a read outside the sheet "
+             "or plan, a write, or too much stack\n",
              case_name);
 }
 
@@ -98,7 +98,7 @@ static void allow(struct room room, int access)
 
 static struct {
     library_call *call;
-    struct bytes sheet;
+    struct input input;
     uint64_t answer;
 } job;
 
@@ -107,7 +107,7 @@ static ucontext_t outside, inside;
 
 static void do_job(void)
 {
-    job.answer = job.call(job.sheet);
+    job.answer = job.call(job.input);
 }
 
 /* The bytes from the stack's top down to the lowest one that changed. */
@@ -139,9 +139,9 @@ enum { PAINT_AT_END = 0xA5, PAINT_AT_START = 0x5A };
 
 static size_t stack_of_no_work;
 
-__attribute__((noinline)) static uint64_t no_work(struct bytes sheet)
+__attribute__((noinline)) static uint64_t no_work(struct input input)
 {
-    (void)sheet;
+    (void)input;
     return 0;
 }
 
@@ -157,7 +157,9 @@ static void measure_no_work(void)
 
 /* ---- one expectation ---- */
 
-static struct room sheet_room; /* a sheet stands in it during the call */
+/* A sheet and a plan stand in them during the call. */
+static struct room sheet_room, plan_room;
+
 unsigned long calls;
 
 static void note_stack(struct subject *subject, size_t used)
@@ -173,11 +175,11 @@ static void print_answer(const char *before, uint64_t answer)
             (unsigned long long)nimovalsa_total(answer));
 }
 
-static void call_and_compare(struct subject *subject, struct bytes sheet,
+static void call_and_compare(struct subject *subject, struct input input,
                              unsigned char paint, uint64_t answer)
 {
     job.call = subject->call;
-    job.sheet = sheet;
+    job.input = input;
     note_stack(subject, run_job(paint));
     calls++;
     if (job.answer != answer) {
@@ -201,27 +203,34 @@ static struct bytes place(struct room room, struct bytes content, size_t offset)
     return (struct bytes){at, content.length};
 }
 
-static struct bytes at_end(struct room room, struct bytes content)
+static struct input placed(struct input input, size_t sheet_offset,
+                           size_t plan_offset)
 {
-    return place(room, content, room.bytes - content.length);
+    return (struct input){place(sheet_room, input.sheet, sheet_offset),
+                          place(plan_room, input.plan, plan_offset)};
 }
 
-static struct bytes at_start(struct room room, struct bytes content)
+void expect_answer_at(struct subject *subject, struct input input,
+                      size_t sheet_offset, size_t plan_offset, uint64_t answer)
 {
-    return place(room, content, 0);
+    call_and_compare(subject, placed(input, sheet_offset, plan_offset),
+                     PAINT_AT_START, answer);
 }
 
-void expect_answer(struct subject *subject, struct bytes sheet, uint64_t answer)
+void expect_answer(struct subject *subject, struct input input, uint64_t answer)
 {
-    call_and_compare(subject, at_end(sheet_room, sheet), PAINT_AT_END, answer);
-    call_and_compare(subject, at_start(sheet_room, sheet), PAINT_AT_START,
-                     answer);
+    size_t sheet_offset = sheet_room.bytes - input.sheet.length;
+    size_t plan_offset = plan_room.bytes - input.plan.length;
+
+    call_and_compare(subject, placed(input, sheet_offset, plan_offset),
+                     PAINT_AT_END, answer);
+    call_and_compare(subject, placed(input, 0, 0), PAINT_AT_START, answer);
 }
 
-void expect_answer_here(struct subject *subject, struct bytes sheet,
+void expect_answer_here(struct subject *subject, struct input input,
                         uint64_t answer)
 {
-    call_and_compare(subject, sheet, PAINT_AT_END, answer);
+    call_and_compare(subject, input, PAINT_AT_END, answer);
 }
 
 void test_stack(const struct subject *subject)
@@ -238,7 +247,8 @@ void start_harness(void)
 {
     name_case("start");
     catch_faults();
-    sheet_room = make_room(LONGEST_INPUT);
+    sheet_room = make_room(LONGEST_SHEET);
+    plan_room = make_room(LONGEST_PLAN);
     stack = make_room(STACK_BYTES);
     allow(stack, PROT_READ | PROT_WRITE);
     measure_no_work();

@@ -95,3 +95,39 @@ void make_empty_sheet(uint8_t *sheet)
 {
     put_head(sheet, 1, 0);
 }
+
+/* What differs from option to option in the paper's Table 1. */
+struct figures {
+    int64_t longest, investment, maintenance, ageing, electricity;
+    unsigned overhauls;
+    int64_t years_between;
+};
+
+void make_paper_sheet(uint8_t *sheet)
+{
+    static const struct figures table[OPTIONS] = {
+        {15, 150000, 70000, 15000, 15000, 2, 5},
+        {30, 1125000, 35000, 10000, 15000, 2, 10},
+        {60, 2500000, 10000, 5000, 10000, 3, 15},
+    };
+
+    put_head(sheet, 300, 40000);
+    for (unsigned option = 0; option < OPTIONS; option++) {
+        const struct figures *of = &table[option];
+        uint8_t *record = record_of(sheet, option);
+
+        put_lives(record, 1, of->longest);
+        put32(record + INVESTMENT, of->investment);
+        put32(record + INVESTMENT_INFLATION, 10300);
+        put32(record + MAINTENANCE, of->maintenance);
+        put32(record + MAINTENANCE_INFLATION, 8500);
+        put32(record + MAINTENANCE_AGEING, of->ageing);
+        put32(record + ELECTRICITY, of->electricity);
+        put32(record + ELECTRICITY_INFLATION, 2000);
+        put32(record + OVERHAUL_INFLATION, 10300);
+        put(record + OVERHAUL_COUNT, 1, of->overhauls);
+        for (unsigned entry = 0; entry < of->overhauls; entry++)
+            put_overhaul(record, entry, of->years_between * (entry + 1),
+                         150000);
+    }
+}
