@@ -163,11 +163,10 @@ enum {
 
 #define END(entry) (ENDS + 2 * (entry))
 
-/* Mark, version, a total that is no chain's, and the years; all of it zero
- * behind the head but the ends. */
+/* The plan of a chain; its total field holds 77, which is no chain's total. */
 struct bytes put_plan(uint8_t *plan, const struct chain *chain);
 
-/* m ends, the first at a year, the others each that many years later. */
+/* The same of m replacements from year 0 on, of that many years each. */
 struct bytes put_even_plan(uint8_t *plan, uint16_t years, uint16_t m);
 
 #endif

@@ -300,6 +300,7 @@ static const struct chain_case limit_chains[] = {
     {{120, 241, 1, {300}}, REFUSED_PLAN},
     {{0, 0, 3, {120, 240, 301}}, REFUSED_PLAN},
     {{0, 0, 3, {120, 240, 44}}, REFUSED_PLAN},
+    {{0, 0, 1, {44}}, REFUSED_PLAN},
 };
 
 /* Payments of 10^13 units: 249 in 120 years (an investment, eight overhauls,
@@ -337,8 +338,8 @@ static void test_chains_of(make_sheet *make, const char *name,
     }
 }
 
-/* The largest total: 300 years, each with an investment and two yearly
- * payments of 10^13 units. */
+/* The largest total there is: in each of 300 years three payments of 10^13
+ * units, an investment and two yearly ones. */
 static void test_largest_total(void)
 {
     static uint8_t sheet[NIMOVALSA_SHEET_BYTES], plan[LONGEST_PLAN];

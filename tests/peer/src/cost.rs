@@ -83,7 +83,7 @@ fn offered(sheet: &Sheet, option: u64, length: i128) -> bool {
 }
 
 /// The arc is without fault, so its years are at most 300.
-fn arc_cost(sheet: &Sheet, arc: Arc) -> u64 {
+pub fn arc_cost(sheet: &Sheet, arc: Arc) -> u64 {
     let record = &sheet.records[arc.option as usize];
     let (start, end) = (arc.start as i64, arc.end as i64);
     if start == end {

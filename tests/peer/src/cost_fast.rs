@@ -20,7 +20,7 @@ pub fn cost_fast(bytes: &[u8], arc: Arc) -> u64 {
     answer.packed()
 }
 
-fn arc_cost(record: &Record, discount: u64, start: u64, length: u64) -> u64 {
+pub fn arc_cost(record: &Record, discount: u64, start: u64, length: u64) -> u64 {
     if length == 0 {
         return 0;
     }
@@ -83,7 +83,7 @@ fn moved(amount: i64, inflation: i64, discount: u64, steps: u64) -> u64 {
     })
 }
 
-fn factor(rate: i64) -> u64 {
+pub fn factor(rate: i64) -> u64 {
     (1_000_000 + rate) as u64
 }
 

@@ -7,6 +7,12 @@ use crate::cost::Arc;
 extern "C" {
     fn nimovalsa_check(sheet: *const u8, length: usize) -> u64;
     fn nimovalsa_cost(sheet: *const u8, length: usize, option: u64, start: u64, end: u64) -> u64;
+    fn nimovalsa_price(
+        sheet: *const u8,
+        sheet_length: usize,
+        plan: *const u8,
+        plan_length: usize,
+    ) -> u64;
 }
 
 pub fn check(sheet: &[u8]) -> u64 {
@@ -17,4 +23,9 @@ pub fn check(sheet: &[u8]) -> u64 {
 pub fn cost(sheet: &[u8], arc: Arc) -> u64 {
     // SAFETY: as above; the other three may be any numbers.
     unsafe { nimovalsa_cost(sheet.as_ptr(), sheet.len(), arc.option, arc.start, arc.end) }
+}
+
+pub fn price(sheet: &[u8], plan: &[u8]) -> u64 {
+    // SAFETY: each pointer and length are those of one slice, and the call only reads both.
+    unsafe { nimovalsa_price(sheet.as_ptr(), sheet.len(), plan.as_ptr(), plan.len()) }
 }

@@ -1,23 +1,30 @@
-//! Compares nimovalsa_check and nimovalsa_cost of libnimovalsa.a with independent
-//! implementations of them on many sheets and arcs, or times nimovalsa_cost.
+//! Compares nimovalsa_check, nimovalsa_cost and nimovalsa_price of libnimovalsa.a with
+//! independent implementations of them on many sheets, arcs and plans, or times costing and
+//! pricing.
 //!
-//! Use: peer [SEED [COUNT]], or peer time. Equal arguments give equal sheets and arcs. COUNT is
-//! the number of sheets that are checked. They start as valid ones and then get values at, just
-//! below and just above the limits of the rules.
+//! Use: peer [SEED [COUNT]], or peer time. Equal arguments give equal sheets, arcs and plans.
+//! COUNT is the number of sheets that are checked. They start as valid ones and then get values
+//! at, just below and just above the limits of the rules.
 //! Status: 0 if all answers agree and each possible answer was seen often enough, 1 if not,
 //! 2 for wrong arguments. With time: 0 if the answers agree, however long they take.
 #![deny(unsafe_code)]
 
 mod answer;
 mod arcs;
+mod chains;
 mod check;
 mod compare;
 mod compare_costs;
+mod compare_prices;
 mod cost;
 mod cost_fast;
 mod damaged;
 mod edits;
 mod library;
+mod plan;
+mod plans;
+mod price;
+mod price_fast;
 mod random;
 mod report;
 mod sheet;
@@ -27,6 +34,7 @@ mod valid;
 
 use compare::compare_all;
 use compare_costs::compare_costs;
+use compare_prices::compare_prices;
 use std::env;
 use std::process::ExitCode;
 use timing::times;
@@ -76,6 +84,7 @@ fn perform(task: Task) -> Result<(), String> {
         Task::Compare { seed, count } => {
             println!("rust peer: {}", compare_all(seed, count)?);
             println!("rust peer: {}", compare_costs(seed)?);
+            println!("rust peer: {}", compare_prices(seed)?);
         }
         Task::Time => {
             for line in times()? {

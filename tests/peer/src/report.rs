@@ -3,13 +3,17 @@
 use crate::answer::described;
 
 pub fn difference(answer: u64, expected: u64, sheet: &[u8]) -> String {
-    let hex: String = sheet.iter().map(|byte| format!("{byte:02x}")).collect();
     format!(
-        "library answers {}, peer answers {}, {} bytes: {hex}",
+        "library answers {}, peer answers {}, {} bytes: {}",
         described(answer),
         described(expected),
-        sheet.len()
+        sheet.len(),
+        hex(sheet)
     )
+}
+
+pub fn hex(bytes: &[u8]) -> String {
+    bytes.iter().map(|byte| format!("{byte:02x}")).collect()
 }
 
 /// The smallest of the counts; an error if an answer was seen fewer times than it must be.

@@ -13,7 +13,7 @@ pub struct Field {
     pub bytes: usize,
 }
 
-const fn field(at: usize, bytes: usize) -> Field {
+pub const fn field(at: usize, bytes: usize) -> Field {
     Field { at, bytes }
 }
 

@@ -1,4 +1,4 @@
-//! Valid sheets whose arcs are costed.
+//! Valid sheets whose arcs are costed and whose chains are priced.
 
 use crate::random::Random;
 use crate::sheet::*;
@@ -15,6 +15,19 @@ pub fn small_sheet(random: &mut Random) -> Vec<u8> {
     };
     let mut sheet = shaped_sheet(random, &shape);
     write(&mut sheet, HORIZON, horizon);
+    sheet
+}
+
+/// A small sheet with short lives, so that it has chains of many shapes.
+pub fn chained_sheet(random: &mut Random) -> Vec<u8> {
+    let mut sheet = small_sheet(random);
+    for option in 0..OPTIONS {
+        let shortest = random.within(1, 4);
+        let longest = shortest + random.within(0, 6);
+        let offered = i64::from(random.below(4) > 0);
+        write(&mut sheet, of_option(option, SHORTEST), offered * shortest);
+        write(&mut sheet, of_option(option, LONGEST), offered * longest);
+    }
     sheet
 }
 
@@ -52,7 +65,7 @@ mod tests {
     #[test]
     fn sheets_pass() {
         let mut random = Random(8);
-        for make in [small_sheet, long_sheet, corner_sheet] {
+        for make in [small_sheet, chained_sheet, long_sheet, corner_sheet] {
             for _ in 0..1_000 {
                 assert_eq!(check(&make(&mut random)).number, 0);
             }

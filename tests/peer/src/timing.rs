@@ -1,22 +1,32 @@
-//! How long a call for one long arc takes: the library's, and that of `cost_fast`.
+//! How long a call for one long arc takes, and one for a plan of 300 years: the library's, and
+//! that of `cost_fast` and `price_fast`.
 
 use crate::answer::described;
-use crate::cost::{answer, cost, Arc};
+use crate::cost::{self, cost, Arc};
 use crate::cost_fast::cost_fast;
 use crate::library;
+use crate::plan::{written, Chain};
+use crate::price::{self, price};
+use crate::price_fast::price_fast;
 use crate::sheet::*;
 use std::hint::black_box;
 use std::time::Instant;
 
 const ROUNDS: usize = 51;
-const CALLS_PER_ROUND: u32 = 200;
 const ARC: Arc = Arc {
     option: 2,
     start: 180,
     end: 300,
 };
 
-type Call = fn(&[u8], Arc) -> u64;
+/// A call of the library and the same in plain Rust, with the answer that both must give.
+struct Pair<'a> {
+    name: &'a str,
+    calls_per_round: u32,
+    library: &'a dyn Fn() -> u64,
+    plain_rust: &'a dyn Fn() -> u64,
+    expected: u64,
+}
 
 /// Every payment of 120 years of service: amounts 10^9, f and g 10,000, eight overhauls.
 fn long_lived_sheet() -> Vec<u8> {
@@ -52,13 +62,10 @@ fn long_lived_sheet() -> Vec<u8> {
     sheet
 }
 
-/// Nanoseconds of one call.
-fn time_of(call: Call, sheet: &[u8]) -> f64 {
-    let begin = Instant::now();
-    for _ in 0..CALLS_PER_ROUND {
-        black_box(call(black_box(sheet), black_box(ARC)));
-    }
-    begin.elapsed().as_nanos() as f64 / f64::from(CALLS_PER_ROUND)
+/// Replacements of so many years each, up to year 300.
+fn even_plan(years: i64) -> Vec<u8> {
+    let ends = (1..=300 / years).map(|entry| entry * years).collect();
+    written(&Chain { i: 0, j: 0, ends }, 0)
 }
 
 fn median(mut times: Vec<f64>) -> f64 {
@@ -66,32 +73,76 @@ fn median(mut times: Vec<f64>) -> f64 {
     times[times.len() / 2]
 }
 
-/// The two times and their ratio, a line each; an error if an answer is not the defined one.
+impl Pair<'_> {
+    /// Nanoseconds of one call.
+    fn time_of(&self, call: &dyn Fn() -> u64) -> f64 {
+        let begin = Instant::now();
+        for _ in 0..self.calls_per_round {
+            black_box(call());
+        }
+        begin.elapsed().as_nanos() as f64 / f64::from(self.calls_per_round)
+    }
+
+    fn verify(&self, name: &str, call: &dyn Fn() -> u64) -> Result<(), String> {
+        let given = call();
+        if given == self.expected {
+            return Ok(());
+        }
+        let [given, expected] = [given, self.expected].map(described);
+        Err(format!(
+            "{}: {name} answers {given}, expected {expected}",
+            self.name
+        ))
+    }
+
+    /// The two times and their ratio; an error if an answer is not the defined one.
+    fn line(&self) -> Result<String, String> {
+        self.verify("library", self.library)?;
+        self.verify("plain rust", self.plain_rust)?;
+        let mut times = [Vec::new(), Vec::new()];
+        for _ in 0..ROUNDS {
+            times[0].push(self.time_of(self.library));
+            times[1].push(self.time_of(self.plain_rust));
+        }
+        let [library, plain_rust] = times.map(median);
+        Ok(format!(
+            "{}: library {library:.0} ns a call, plain rust {plain_rust:.0} ns, median of \
+             {ROUNDS} rounds; library / plain rust {:.2}",
+            self.name,
+            library / plain_rust
+        ))
+    }
+}
+
+fn cost_line(sheet: &[u8]) -> Result<String, String> {
+    Pair {
+        name: "cost of 120 years",
+        calls_per_round: 200,
+        library: &|| library::cost(black_box(sheet), black_box(ARC)),
+        plain_rust: &|| cost_fast(black_box(sheet), black_box(ARC)),
+        expected: cost::answer(cost(sheet, ARC)).packed(),
+    }
+    .line()
+}
+
+fn price_line(sheet: &[u8], name: &str, years: i64) -> Result<String, String> {
+    let plan = even_plan(years);
+    Pair {
+        name,
+        calls_per_round: 10,
+        library: &|| library::price(black_box(sheet), black_box(&plan)),
+        plain_rust: &|| price_fast(black_box(sheet), black_box(&plan)),
+        expected: price::answer(&price(sheet, &plan)).packed(),
+    }
+    .line()
+}
+
+/// A line for each kind of call.
 pub fn times() -> Result<Vec<String>, String> {
     let sheet = long_lived_sheet();
-    let expected = answer(cost(&sheet, ARC)).packed();
-    let mut calls: [(&str, Call, Vec<f64>); 2] = [
-        ("library", library::cost, Vec::new()),
-        ("plain rust", cost_fast, Vec::new()),
-    ];
-    for (name, call, _) in &calls {
-        let given = call(&sheet, ARC);
-        if given != expected {
-            let [given, expected] = [given, expected].map(described);
-            return Err(format!("{name} answers {given}, expected {expected}"));
-        }
-    }
-    for _ in 0..ROUNDS {
-        for (_, call, times) in &mut calls {
-            times.push(time_of(*call, &sheet));
-        }
-    }
-    let medians = calls.map(|(name, _, times)| (name, median(times)));
-    let mut lines: Vec<String> = medians
-        .iter()
-        .map(|(name, time)| format!("{name} {time:.0} ns a call, median of {ROUNDS} rounds"))
-        .collect();
-    let [(_, library), (_, plain_rust)] = medians;
-    lines.push(format!("library / plain rust {:.2}", library / plain_rust));
-    Ok(lines)
+    Ok(vec![
+        cost_line(&sheet)?,
+        price_line(&sheet, "price of 5 replacements of 60 years", 60)?,
+        price_line(&sheet, "price of 300 replacements of 1 year", 1)?,
+    ])
 }

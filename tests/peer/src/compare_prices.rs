@@ -1,0 +1,285 @@
+//! The comparison of the library's totals with the independent ones.
+
+use crate::answer::described;
+use crate::compare::possible_answers;
+use crate::damaged::random_sheet;
+use crate::library;
+use crate::plan::{read, written, Chain, Missing};
+use crate::plans::*;
+use crate::price::{answer, price, Fault, Refusal};
+use crate::random::Random;
+use crate::report::{difference, hex, least_seen, summary};
+use crate::sheet::{of_option, unsigned, HORIZON, LONGEST};
+use crate::sheets::{chained_sheet, corner_sheet, long_sheet, small_sheet};
+use std::collections::BTreeMap;
+
+/// Every kind of outcome must occur this often, or the plans test too little.
+const LEAST_SEEN: u64 = 200;
+/// This many sheets get a dozen plans each.
+const CHAINED_SHEETS: usize = 12_000;
+const SMALL_SHEETS: usize = 3_000;
+const LONG_SHEETS: usize = 250;
+const CORNER_SHEETS: usize = 250;
+/// This many get every bit, every length and other values in every number of one plan.
+const SWEPT_SHEETS: usize = 40;
+/// This many, most of them refused, get a few plans.
+const DAMAGED_SHEETS: usize = 5_000;
+/// Of a plan's bytes, a difference shows this many.
+const SHOWN_BYTES: usize = 640;
+
+/// What a feasible chain has of an option that may be empty.
+#[derive(Clone, Copy, PartialEq, Eq, PartialOrd, Ord, Debug)]
+enum Part {
+    Kept,
+    Empty { offered: bool },
+}
+
+/// The outcomes that are told apart when they are counted.
+#[derive(Clone, Copy, PartialEq, Eq, PartialOrd, Ord)]
+enum Kind {
+    /// The packed answer.
+    RefusedSheet(u64),
+    /// The only fault of the plan.
+    RefusedPlan(Fault),
+    SeveralFaults,
+    /// How many replacements there are: none, one, or more.
+    Priced {
+        maintain: Part,
+        renovate: Part,
+        replacements: usize,
+    },
+    /// As well as the kind above.
+    PricedTo300,
+}
+
+const PARTS: [Part; 3] = [
+    Part::Kept,
+    Part::Empty { offered: false },
+    Part::Empty { offered: true },
+];
+
+fn part(sheet: &[u8], option: usize, length: i64) -> Part {
+    match length {
+        0 => Part::Empty {
+            offered: unsigned(sheet, of_option(option, LONGEST)) > 0,
+        },
+        _ => Part::Kept,
+    }
+}
+
+fn all_faults() -> Vec<Fault> {
+    let of_options = (0..3).flat_map(|option| {
+        let kinds = [Fault::NotOffered, Fault::BelowShortest, Fault::AboveLongest];
+        kinds.map(|kind| kind(option))
+    });
+    let mut list = vec![
+        Fault::Lacks(Missing::Head),
+        Fault::Lacks(Missing::Ends),
+        Fault::LongerThanItsEnds,
+        Fault::RenovateFalls,
+        Fault::ReplacementFalls,
+        Fault::ReplacementIsEmpty,
+        Fault::YearPastHorizon,
+        Fault::StopsBeforeHorizon,
+    ];
+    list.extend((0..3).map(Fault::Mark));
+    list.extend((0..2).map(Fault::Version));
+    list.extend(of_options);
+    list
+}
+
+/// Some year is at least 1, so something is kept.
+fn all_priced() -> impl Iterator<Item = Kind> {
+    let pairs = PARTS.map(|maintain| PARTS.map(|renovate| (maintain, renovate)));
+    let all = pairs
+        .into_iter()
+        .flatten()
+        .flat_map(|(maintain, renovate)| {
+            [0, 1, 2].map(|replacements| (maintain, renovate, replacements))
+        });
+    all.filter(|&(maintain, renovate, replacements)| {
+        replacements > 0 || maintain == Part::Kept || renovate == Part::Kept
+    })
+    .map(|(maintain, renovate, replacements)| Kind::Priced {
+        maintain,
+        renovate,
+        replacements,
+    })
+}
+
+impl Kind {
+    fn of(sheet: &[u8], plan: &[u8], outcome: &Result<u64, Refusal>) -> Kind {
+        match outcome {
+            Err(Refusal::OfSheet(answer)) => Kind::RefusedSheet(answer.packed()),
+            Err(Refusal::OfPlan(faults)) => match faults.first() {
+                Some(&fault) if faults.len() == 1 => Kind::RefusedPlan(fault),
+                _ => Kind::SeveralFaults,
+            },
+            Ok(_) => Kind::priced(sheet, &read(plan).expect("an accepted plan")),
+        }
+    }
+
+    fn priced(sheet: &[u8], chain: &Chain) -> Kind {
+        Kind::Priced {
+            maintain: part(sheet, 0, chain.i),
+            renovate: part(sheet, 1, chain.j - chain.i),
+            replacements: chain.ends.len().min(2),
+        }
+    }
+
+    fn all() -> impl Iterator<Item = Kind> {
+        let sheets = possible_answers().filter(|&packed| packed != 3);
+        sheets
+            .map(Kind::RefusedSheet)
+            .chain(all_faults().into_iter().map(Kind::RefusedPlan))
+            .chain([Kind::SeveralFaults])
+            .chain(all_priced())
+            .chain([Kind::PricedTo300])
+    }
+
+    fn described(self) -> String {
+        match self {
+            Kind::RefusedSheet(packed) => described(packed),
+            Kind::RefusedPlan(fault) => format!("number 14 for {fault:?} alone"),
+            Kind::SeveralFaults => "number 14 for several faults".into(),
+            Kind::Priced {
+                maintain,
+                renovate,
+                replacements,
+            } => {
+                let many = ["no", "one", "several"][replacements];
+                format!("maintain {maintain:?}, renovate {renovate:?}, {many} replacements,")
+            }
+            Kind::PricedTo300 => "a chain to year 300".into(),
+        }
+    }
+}
+
+struct Comparison {
+    compared: u64,
+    seen: BTreeMap<Kind, u64>,
+}
+
+impl Comparison {
+    fn compare(&mut self, sheet: &[u8], plan: &[u8]) -> Result<(), String> {
+        let outcome = price(sheet, plan);
+        let expected = answer(&outcome).packed();
+        let answer = library::price(sheet, plan);
+        if answer != expected {
+            let shown = hex(&plan[..plan.len().min(SHOWN_BYTES)]);
+            let difference = difference(answer, expected, sheet);
+            return Err(format!(
+                "plan of {} bytes {shown}: {difference}",
+                plan.len()
+            ));
+        }
+        self.compared += 1;
+        self.count(Kind::of(sheet, plan, &outcome));
+        if outcome.is_ok() && unsigned(sheet, HORIZON) == 300 {
+            self.count(Kind::PricedTo300);
+        }
+        Ok(())
+    }
+
+    fn count(&mut self, kind: Kind) {
+        *self.seen.entry(kind).or_insert(0) += 1;
+    }
+
+    fn compare_all(&mut self, sheet: &[u8], plans: Vec<Vec<u8>>) -> Result<(), String> {
+        plans.iter().try_for_each(|plan| self.compare(sheet, plan))
+    }
+
+    /// A dozen plans for each of some sheets.
+    fn some_plans(
+        &mut self,
+        random: &mut Random,
+        make: fn(&mut Random) -> Vec<u8>,
+        count: usize,
+    ) -> Result<(), String> {
+        for _ in 0..count {
+            let sheet = make(random);
+            let horizon = unsigned(&sheet, HORIZON);
+            let chain = some_chain_on(random, &sheet);
+            let right = plan_of(random, &chain);
+            let other_shape = reshaped(random, &chain, horizon);
+            let mut plans = vec![
+                plan_of(random, &chain),
+                plan_of(random, &other_shape),
+                other_number(random, &right, horizon),
+                other_number(random, &right, horizon),
+                flipped(random, &right),
+                flipped(random, &right),
+                other_length(random, &right),
+                other_count(random, &right),
+                right,
+            ];
+            for _ in 0..3 {
+                plans.extend(chain_beside(random, &sheet).map(|chain| plan_of(random, &chain)));
+            }
+            self.compare_all(&sheet, plans)?;
+        }
+        Ok(())
+    }
+
+    fn swept_plans(&mut self, random: &mut Random) -> Result<(), String> {
+        for _ in 0..SWEPT_SHEETS {
+            let sheet = chained_sheet(random);
+            let chain = some_chain_on(random, &sheet);
+            let plan = plan_of(random, &chain);
+            self.compare_all(&sheet, every_length(&plan))?;
+            self.compare_all(&sheet, every_number(&plan))?;
+            self.compare_all(&sheet, every_flip(&plan))?;
+            self.compare_all(&sheet, longest_plans(&chain))?;
+        }
+        Ok(())
+    }
+
+    /// Replacements of so many years each, the last one up to year 300.
+    fn corner_plans(&mut self, random: &mut Random) -> Result<(), String> {
+        for years in [1, 2, 60, 119, 120] {
+            let sheet = corner_sheet(random);
+            let mut ends: Vec<i64> = (1..=299 / years).map(|entry| entry * years).collect();
+            ends.push(300);
+            let chain = Chain { i: 0, j: 0, ends };
+            self.compare(&sheet, &written(&chain, random.next()))?;
+            self.compare_all(&sheet, longest_plans(&chain))?;
+        }
+        Ok(())
+    }
+
+    /// With and without a fault of the plan: the sheet's refusal comes first.
+    fn damaged_sheets(&mut self, random: &mut Random) -> Result<(), String> {
+        for _ in 0..DAMAGED_SHEETS {
+            let sheet = random_sheet(random);
+            let ends = vec![random.within(1, 300)];
+            let right = plan_of(random, &Chain { i: 0, j: 0, ends });
+            let plans = vec![
+                Vec::new(),
+                other_length(random, &right),
+                flipped(random, &right),
+                right,
+            ];
+            self.compare_all(&sheet, plans)?;
+        }
+        Ok(())
+    }
+}
+
+pub fn compare_prices(seed: u64) -> Result<String, String> {
+    let mut random = Random(seed);
+    let mut comparison = Comparison {
+        compared: 0,
+        seen: BTreeMap::new(),
+    };
+    comparison.some_plans(&mut random, chained_sheet, CHAINED_SHEETS)?;
+    comparison.some_plans(&mut random, small_sheet, SMALL_SHEETS)?;
+    comparison.some_plans(&mut random, long_sheet, LONG_SHEETS)?;
+    comparison.some_plans(&mut random, corner_sheet, CORNER_SHEETS)?;
+    comparison.swept_plans(&mut random)?;
+    comparison.corner_plans(&mut random)?;
+    comparison.damaged_sheets(&mut random)?;
+    let seen = |kind| comparison.seen.get(&kind).copied().unwrap_or(0);
+    let counts = Kind::all().map(|kind| (kind.described(), seen(kind)));
+    let least = least_seen(counts, LEAST_SEEN)?;
+    Ok(summary(comparison.compared, "plans", least))
+}
