@@ -338,8 +338,8 @@ static void test_chains_of(make_sheet *make, const char *name,
     }
 }
 
-/* The largest total there is: in each of 300 years three payments of 10^13
- * units, an investment and two yearly ones. */
+/* But for rounding, no total is larger: three payments of 10^13 units in each
+ * of 300 years, an investment and two yearly ones. */
 static void test_largest_total(void)
 {
     static uint8_t sheet[NIMOVALSA_SHEET_BYTES], plan[LONGEST_PLAN];
