@@ -131,7 +131,7 @@ uint64_t nimovalsa_check(const uint8_t *sheet, size_t length);
  * written, and nothing is kept between calls.
  *
  * Duties of the caller: those of nimovalsa_check, with NIMOVALSA_COST_STACK
- * bytes of stack. The call was measured to use 3,760; tests/c measures it again
+ * bytes of stack. The call was measured to use 2,160; tests/c measures it again
  * and fails above the figure here. It is not proved.
  */
 #define NIMOVALSA_COST_STACK 8192
@@ -164,8 +164,9 @@ uint64_t nimovalsa_cost(const uint8_t *sheet, size_t length, uint64_t option,
  *   - sheet points to sheet_length readable bytes and plan to plan_length, each
  *     at any alignment. With length 0 it may be any pointer, also NULL.
  *   - nothing changes those bytes during the call.
- *   - NIMOVALSA_PRICE_STACK bytes of stack are free; tests/c measures what the
- *     call uses and fails above the figure here. It is not proved.
+ *   - NIMOVALSA_PRICE_STACK bytes of stack are free. The call was measured
+ *     to use 2,192 bytes; tests/c measures it again and fails above the figure
+ *     here. It is not proved.
  */
 #define NIMOVALSA_PRICE_STACK 8192
 

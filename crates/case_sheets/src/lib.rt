@@ -2,6 +2,8 @@
 
 ghost use Prim.Native.Nat.{_+_, _≤_};
 
+pub mod paper;
+
 fn low(value: u64) -> u8 {
     (value % 256) as u8
 }

@@ -1,7 +1,7 @@
 // Each way into refusal 13 at its limit, on the paper's sheet and on one that offers no option; and refusals 1 to 9, which come first.
 
-use crate::paper::sheet;
 use crate::show::answer;
+use case_sheets::paper::sheet;
 use case_sheets::plain;
 use case_sheets::put16;
 

@@ -1,0 +1,12 @@
+// Runs `price` on plans and prints an answer a line; the file `stdout` beside `src` has the lines expected. The paper's case study: its
+// chain, with the total of its Tables 5 and 6, and other chains of the same sheet; and each way into refusal 14, at its limit.
+
+mod chains;
+mod plan;
+mod refusals;
+mod show;
+
+fn main() {
+    chains::priced();
+    refusals::all();
+}
