@@ -2,7 +2,7 @@
 -- lead to T (`reaches-stop`, `reaches-next`, `reaches-none`), their years (`climbs-next`) and what they cost (`spent-next`, `spent-none`).
 -- Assumes nothing.
 use Prim.Native.Nat.{ℕ, _+_, _-_, _<_}
-use mathlib.Core.Path.{_≡_, refl, sym, subst, _∙_}
+use mathlib.Core.Path.{_≡_, subst}
 use mathlib.Core.List.{List, _∷_}
 use mathlib.Core.Bool.{true, false}
 use lib.Dec.{eqb}

@@ -12,7 +12,7 @@ use Rattle.checking.proofs.TestLaws.{eqb-iff, both-iff}
 use Rattle.costing.specs.Lists.{Every}
 use Rattle.costing.specs.Offered.{Offered}
 use Rattle.costing.proofs.OfferedLaws.{offered-iff}
-use Rattle.chain.specs.Chain.{Chain, maintain, renovate, replace, replacements, activities, Rising, last, OffersActivity, Feasible}
+use Rattle.chain.specs.Chain.{Chain, maintain, renovate, replace, replacements, activities, Rising, last, OffersActivity, Reaches, Feasible}
 use Rattle.chain.specs.PlanBytes.{encode, decode}
 use Rattle.chain.specs.Fitting.{reaches, feasible}
 use Rattle.chain.specs.Ordered.{Climbs, Ordered}
@@ -23,12 +23,7 @@ pub climbs-rest : {T y k : ℕ} {ks : List ℕ} → Climbs T y (k ∷ ks) → Cl
 climbs-rest h = record { early = h .inside .0; rising = h .rising .1; inside = h .inside .1 }
 
 module _ (p : PlanningSheet) where
-  -- replacements lead from year y to T
-  pub record Reaches (y : ℕ) (ks : List ℕ) : Type 0 where
-    pub offered : Every (OffersActivity p) (replacements y ks)
-    pub arrived : last y ks ≡ p .horizon
-
-  pub reaches-iff : (y : ℕ) (ks : List ℕ) → (reaches p y ks ≡ true) ↔ Reaches y ks
+  pub reaches-iff : (y : ℕ) (ks : List ℕ) → (reaches p y ks ≡ true) ↔ Reaches p y ks
   unfolding reaches replacements last
   reaches-iff y [] =
       let ends = eqb-iff y (p .horizon) in
@@ -56,7 +51,7 @@ module _ (p : PlanningSheet) where
   -- maintain and renovate are offered, and replacements lead to T: the rest of `Feasible` follows
   pub feasible-parts :
       (c : Chain)
-      → Feasible p c ↔ (Offered p maintain 0 (c .i) × (Offered p renovate (c .i) (c .j) × Reaches (c .j) (c .ends)))
+      → Feasible p c ↔ (Offered p maintain 0 (c .i) × (Offered p renovate (c .i) (c .j) × Reaches p (c .j) (c .ends)))
   unfolding activities
   feasible-parts c = (
     λ h. (h .offered .0, (h .offered .1 .0, record { offered = h .offered .1 .1; arrived = h .arrived })),
@@ -102,6 +97,6 @@ narrow-of-feasible p far c h =
       years = narrow-inside (p .horizon) far (c .ends) (h .inside .1 .1);
     }
 
--- decoding what was encoded gives the chain back, for every feasible chain of a sheet and every total field
+-- decoding what was encoded gives the chain back, for every feasible chain of a sheet (its T is a u16) and every total field
 pub decode-feasible : (p : PlanningSheet) → p .horizon < 65_536 → (c : Chain) → Feasible p c → (total : ℕ) → decode (encode total c) ≡ c
 decode-feasible p far c h total = decode-encode total c (narrow-of-feasible p far c h)

@@ -2,7 +2,7 @@
 -- replacements decide, where i, j and m are the numbers read from the plan (`fitting-replaced`); and what it means that a plan fits
 -- (`fitting-iff`). Assumes nothing.
 use Prim.Native.Nat.{ℕ}
-use mathlib.Core.Path.{_≡_, refl}
+use mathlib.Core.Path.{_≡_}
 use mathlib.Core.List.{List}
 use mathlib.Core.Bool.{true, false}
 use mathlib.Core.Logic.{_↔_}

@@ -1,20 +1,19 @@
--- What `priced` answers: the ways in which `price` ends, when it accepts and at which total (`priced-iff`), how near that total is to the
--- exact value (`priced-near`), and the range of the answer. Assumes nothing.
-use Prim.Native.Nat.{ℕ, _≤_, _<_}
+-- What `priced` answers: the ways in which `price` ends, when it accepts and at which total (`priced-iff`, `priced-encode`), how near that
+-- total is to the exact value (`priced-near`), and the range of the answer. Assumes nothing.
+use Prim.Native.Nat.{ℕ, _<_}
 use mathlib.Core.Path.{_≡_, refl, ap, sym, subst, _∙_}
 use mathlib.Core.List.{List}
 use mathlib.Core.Bool.{Bool, true, false}
 use mathlib.Core.Logic.{_↔_}
 use native.Mathlib.Omega.{arith}
-use lib.Dec.{eqb}
 use lib.ListN.{length, getD}
-use borrow.Author.Tests.{eqb-true}
 use Rattle.sheet.specs.Sheet.{sheetOf}
 use Rattle.checking.specs.Answer.{accepted, refused, InTable}
 use Rattle.checking.specs.Refusals.{checked}
 use Rattle.checking.specs.Passes.{Passes}
 use Rattle.checking.specs.declared.Answer.{Answer}
 use Rattle.checking.proofs.CallLaws.{call-refused, call-stopped, call-passed, call-iff, call-total, call-range, call-lt}
+use Rattle.checking.proofs.PassesLaws.{checked-iff}
 use Rattle.checking.proofs.FitLaws.{fit}
 use Rattle.chain.specs.Chain.{Chain, Feasible, roundedTotal}
 use Rattle.chain.specs.PlanBytes.{encode, totalField, decode}
@@ -44,7 +43,8 @@ module _ (s plan : List ℕ) where
   unfolding priced pricing
   price-unfit = call-stopped s rule 14 units
 
-  pub price-fit : checked s .number ≡ 0 → fitting (sheetOf s) plan ≡ true → accepted (roundedTotal (sheetOf s) (decode plan)) ≡ priced s plan
+  pub price-fit :
+      checked s .number ≡ 0 → fitting (sheetOf s) plan ≡ true → accepted (roundedTotal (sheetOf s) (decode plan)) ≡ priced s plan
   unfolding priced pricing
   price-fit = call-passed s rule 14 units
 
@@ -58,13 +58,17 @@ module _ (s plan : List ℕ) where
   unfolding priced pricing
   accepted-total = call-total s rule 14 units (omega arith)
 
-  -- the encoding of a feasible chain, with any total field, has the shape and holds that chain
-  encoded-holds :
-      Passes s → (c : Chain) → Feasible (sheetOf s) c → (field : ℕ) → plan ≡ encode field c → Shaped plan × (decode plan ≡ c)
-  encoded-holds h c feasible field encoded =
+  -- bytes that encode a feasible chain of a sheet that passes, with any total field, are priced at its rounded total
+  encoded-priced :
+      Passes s → (c : Chain) → Feasible (sheetOf s) c → (field : ℕ) → plan ≡ encode field c
+      → priced s plan ≡ accepted (roundedTotal (sheetOf s) c)
+  encoded-priced h c feasible field encoded =
       let horizon = h .header .horizon .1 in
       let narrow = narrow-of-feasible (sheetOf s) (omega arith) c feasible in
-      (subst Shaped (sym encoded) (encode-shaped field c narrow), ap decode encoded ∙ decode-encode field c narrow)
+      let shape = subst Shaped (sym encoded) (encode-shaped field c narrow) in
+      let same = ap decode encoded ∙ decode-encode field c narrow in
+      let fits = fitting-iff (sheetOf s) plan .1 (shape, subst (Feasible (sheetOf s)) (sym same) feasible) in
+      sym (price-fit (checked-iff s .1 h) fits) ∙ ap (λ (d : Chain). accepted (roundedTotal (sheetOf s) d)) same
 
   -- accepted with a total exactly when the plan is priced at it
   priced-iff :
@@ -82,9 +86,8 @@ module _ (s plan : List ℕ) where
           sum = sym (e .1) ∙ accepted-total (e .0);
         },
     λ h.
-        let holds = encoded-holds (h .passes) (h .chain) (h .feasible) _ (h .encoded) in
-        let zero = accepted-iff .1 (h .passes, (holds .0, subst (Feasible (sheetOf s)) (sym (holds .1)) (h .feasible))) in
-        (zero, accepted-total zero ∙ ap (roundedTotal (sheetOf s)) (holds .1) ∙ sym (h .sum)),
+        let e = encoded-priced (h .passes) (h .chain) (h .feasible) _ (h .encoded) in
+        (ap (λ (a : Answer). a .number) e, ap (λ (a : Answer). a .total) e ∙ sym (h .sum)),
   )
 
   priced-near : priced s plan .number ≡ 0 → TotalNear (sheetOf s) (decode plan) (priced s plan .total)
@@ -111,3 +114,9 @@ module _ (s plan : List ℕ) where
   priced-lt =
       call-lt s rule 14 units 72_057_594_037_927_936 (omega arith)
       (λ h e. roundedTotal-lt (sheetOf s) (fit s h) (decode plan) (fitting-iff (sheetOf s) plan .0 e .1))
+
+-- so the encoding of every feasible chain is priced at its rounded total, whatever its total field says
+pub priced-encode :
+    (s : List ℕ) → Passes s → (c : Chain) → Feasible (sheetOf s) c → (field : ℕ)
+    → priced s (encode field c) ≡ accepted (roundedTotal (sheetOf s) c)
+priced-encode s h c feasible field = encoded-priced s (encode field c) h c feasible field refl

@@ -1,5 +1,5 @@
--- The total of the chain in a plan, arc by arc (`ordered-read`, `total-read`), and how large a total can be (`roundedTotal-lt`): a year of a
--- chain adds at most 11 payments, so 64 bits hold the total of every feasible chain of a sheet that passes the checks, and its C form.
+-- The total of the chain in a plan, arc by arc (`ordered-read`, `total-read`), and how large a total can be (`roundedTotal-lt`): a year of
+-- a chain adds at most 11 payments, so 64 bits hold the total of every feasible chain of a sheet that passes the checks, and its C form.
 -- Assumes nothing.
 use Prim.Native.Nat.{ℕ, _+_, _*_, _≤_, _<_}
 use mathlib.Core.List.{List, [], _∷_}

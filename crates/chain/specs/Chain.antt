@@ -13,7 +13,7 @@ pub record Chain : Type 0 where
   pub j : ℕ
   pub ends : List ℕ
 
--- an activity: an option, the year in which it starts and the year in which it ends
+-- an activity: an option, the year in which it starts and the year in which it ends; on a sheet it is an arc
 pub record Activity : Type 0 where
   pub option : ℕ
   pub start : ℕ
@@ -23,6 +23,7 @@ infix 70 _from_to_
 abbrev pub _from_to_ : (option start end : ℕ) → Activity
 option from start to end = record { option = option; start = start; end = end }
 
+-- the options by their numbers
 abbrev pub maintain : ℕ
 maintain = 0
 
@@ -54,6 +55,11 @@ last y (k ∷ ks) = last k ks
 -- an activity of a length that its option offers: between its shortest and longest life, or 0 for maintain and renovate
 abbrev pub OffersActivity : PlanningSheet → Activity → Type 0
 OffersActivity p a = Offered p (a .option) (a .start) (a .end)
+
+-- replacements alone lead from year y to T
+pub record Reaches (p : PlanningSheet) (y : ℕ) (ks : List ℕ) : Type 0 where
+  pub offered : Every (OffersActivity p) (replacements y ks)
+  pub arrived : last y ks ≡ p .horizon
 
 -- What makes a chain feasible, in document 01's order: i ≤ j, and j < k1 < k2 < .. < km; each length is offered; all years are at most T;
 -- the last activity ends at T, which is m = 0 and j = T, or km = T.

@@ -1,4 +1,5 @@
--- What the code of a chain's total asks: years in order, none past T. `FeasibleLaws.antt` shows it of every feasible chain. Definitions only.
+-- What the code of a chain's total asks: years in order, none past T. `FeasibleLaws.antt` shows it of every feasible chain.
+-- Definitions only.
 use Prim.Native.Nat.{ℕ, _≤_}
 use mathlib.Core.List.{List}
 use Rattle.costing.specs.Lists.{Every}

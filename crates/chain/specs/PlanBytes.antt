@@ -42,6 +42,6 @@ unfoldable pub endsAt : List ℕ → (at count : ℕ) → List ℕ
 endsAt plan at zero = []
 endsAt plan at (suc n) = u16At plan at ∷ endsAt plan (at + 2) n
 
--- the chain in plan bytes
+-- the chain in plan bytes: behind mark, version and total stand i, j, m and the ends
 unfoldable pub decode : List ℕ → Chain
 decode plan = record { i = u16At plan 13; j = u16At plan 15; ends = endsAt plan 19 (countField plan) }

@@ -7,6 +7,9 @@ ghost use Rattle.sheet.specs.Sheet.{PlanningSheet};
 ghost use Rattle.sheet.specs.Parsed.{parsed};
 ghost use Rattle.chain.specs.PlanBytes.{endsAt};
 ghost use Rattle.chain.specs.Fitting.{shaped, reaches, fitting};
+use crate::MAINTAIN;
+use crate::RENOVATE;
+use crate::REPLACE;
 use sheet::Sheet;
 use sheet::fields;
 
@@ -20,7 +23,7 @@ fn shaped(plan: &[u8]) -> bool
     let m = fields::u16_at(plan, 17);
     let version = fields::u16_at(plan, 3);
     (plan.len() as u64 == 19 + 2 * m)
-        & ((plan[0] == 82) & (plan[1] == 67) & (plan[2] == 80))
+        & ((plan[0] == b'R') & (plan[1] == b'C') & (plan[2] == b'P'))
         & (version == 1)
 }
 
@@ -34,7 +37,7 @@ fn reaches(sheet: Sheet, start: u64, plan: &[u8], count: usize) -> bool
     let mut left = count;
     while 0 < left {
         let end = fields::u16_at(plan, at);
-        if !costing::offer::offered(sheet, 2, year, end) {
+        if !costing::offer::offered(sheet, REPLACE, year, end) {
             return false;
         }
         year = end;
@@ -52,11 +55,11 @@ pub fn plan_fits(sheet: Sheet, plan: &[u8]) -> bool
         return false;
     }
     let i = fields::u16_at(plan, 13);
-    if !costing::offer::offered(sheet, 0, 0, i) {
+    if !costing::offer::offered(sheet, MAINTAIN, 0, i) {
         return false;
     }
     let j = fields::u16_at(plan, 15);
-    if !costing::offer::offered(sheet, 1, i, j) {
+    if !costing::offer::offered(sheet, RENOVATE, i, j) {
         return false;
     }
     let count = fields::u16_at(plan, 17);

@@ -13,6 +13,13 @@ use checking::Answer;
 mod fitting;
 mod total;
 
+// The options by their numbers.
+const MAINTAIN: u64 = 0;
+
+const RENOVATE: u64 = 1;
+
+const REPLACE: u64 = 2;
+
 // The rounded total of the chain in plan bytes from any hand.
 pub fn price(sheet: &[u8], plan: &[u8]) -> Answer
     ensures answer { λ r. ⌜ r ≡ priced (now (sheet .entry)) (now (plan .entry)) ⌝ }

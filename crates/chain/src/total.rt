@@ -10,6 +10,9 @@ ghost use Rattle.costing.specs.Fit.{yearly};
 ghost use Rattle.chain.specs.Chain.{replacements, spent, roundedTotal};
 ghost use Rattle.chain.specs.Ordered.{Climbs, Ordered};
 ghost use Rattle.chain.specs.PlanBytes.{countField, endsAt, decode};
+use crate::MAINTAIN;
+use crate::RENOVATE;
+use crate::REPLACE;
 use costing::Units;
 use sheet::Sheet;
 use sheet::fields;
@@ -27,7 +30,7 @@ fn replaced(sheet: Sheet, start: u64, plan: &[u8], count: usize) -> Units
     let mut sum = 0;
     while 0 < left {
         let end = fields::u16_at(plan, at);
-        sum += costing::arc_cost(sheet, 2, year, end).0;
+        sum += costing::arc_cost(sheet, REPLACE, year, end).0;
         year = end;
         at += 2;
         left -= 1;
@@ -44,8 +47,8 @@ pub fn plan_total(sheet: Sheet, plan: &[u8]) -> Units
     let i = fields::u16_at(plan, 13);
     let j = fields::u16_at(plan, 15);
     let count = fields::u16_at(plan, 17);
-    let maintained = costing::arc_cost(sheet, 0, 0, i);
-    let renovated = costing::arc_cost(sheet, 1, i, j);
+    let maintained = costing::arc_cost(sheet, MAINTAIN, 0, i);
+    let renovated = costing::arc_cost(sheet, RENOVATE, i, j);
     let replacements = replaced(sheet, j, plan, count as usize);
     let later = renovated.0 + replacements.0;
     let sum = maintained.0 + later;

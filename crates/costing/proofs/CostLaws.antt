@@ -1,17 +1,11 @@
 -- What `costed` answers: the ways in which `cost` ends, when it accepts, and the range of its answer. Assumes nothing.
-use Prim.Native.Nat.{ℕ, _+_, _-_, _≤_, _<_}
-use mathlib.Core.Path.{_≡_, refl, ap, sym, _∙_}
+use Prim.Native.Nat.{ℕ, _+_, _-_, _<_}
+use mathlib.Core.Path.{_≡_}
 use mathlib.Core.List.{List}
 use mathlib.Core.Bool.{Bool, true, false}
 use mathlib.Core.Logic.{_↔_}
 use native.Mathlib.Omega.{arith}
-use lib.Dec.{eqb}
-use lib.ListN.{getD}
-use borrow.Author.Tests.{eqb-true}
 use Rattle.sheet.specs.Sheet.{sheetOf}
-use Rattle.sheet.specs.Parsed.{parsed}
-use Rattle.sheet.specs.declared.Sheet.{Sheet}
-use Rattle.sheet.specs.declared.Terms.{Terms}
 use Rattle.checking.specs.Answer.{accepted, refused, InTable}
 use Rattle.checking.specs.Refusals.{checked}
 use Rattle.checking.specs.Passes.{Passes}
@@ -19,16 +13,13 @@ use Rattle.checking.specs.declared.Answer.{Answer}
 use Rattle.checking.proofs.CallLaws.{call-refused, call-stopped, call-passed, call-iff, call-total, call-range, call-lt}
 use Rattle.checking.proofs.FitLaws.{fit}
 use Rattle.costing.specs.Lists.{total, Every}
-use Rattle.costing.specs.Arc.{arcOf, paid, payments, cost, worth}
+use Rattle.costing.specs.Arc.{arcOf, payments, cost}
 use Rattle.costing.specs.Offered.{offered, Offered}
 use Rattle.costing.specs.Costing.{costing, costed}
 use Rattle.costing.specs.Error.{PaymentNear, WithinAllowance}
-use Rattle.costing.specs.Fit.{KeptFits}
-use Rattle.costing.specs.declared.Kept.{Kept}
 use Rattle.costing.proofs.SheetArcLaws.{arc-fits, cost-le}
 use Rattle.costing.proofs.ErrorOfArc.{ArcFits, payments-error, arc-error}
 use Rattle.costing.proofs.OfferedLaws.{offered-iff}
-use Rattle.sheet.proofs.ParsedLaws.{discount-read, terms-read}
 
 module _ (s : List ℕ) (option start end : ℕ) where
   -- costing is a call with one rule of its own, 13: the arc is offered

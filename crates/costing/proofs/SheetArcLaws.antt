@@ -1,6 +1,7 @@
--- An arc of a sheet: what the code holds of it (`kept-read`, `cost-paid`), and what a sheet that passes the checks gives of it: room for its
--- steps (`kept-fits`), what the laws of the error ask (`arc-fits`), and how large its cost can be (`cost-le`). Assumes nothing.
-use Prim.Native.Nat.{ℕ, _+_, _-_, _*_, _≤_, _<_}
+-- An arc of a sheet: what the code holds of it (`kept-read`, `cost-paid`), and what a sheet that passes the checks gives of it: room for
+-- its steps (`keptOf-fits`), what the laws of the error ask (`arc-fits`), and how large its cost can be (`keptOf-room`, `cost-le`).
+-- Assumes nothing.
+use Prim.Native.Nat.{ℕ, _-_, _*_, _≤_}
 use mathlib.Core.Path.{_≡_, refl, ap, sym, subst}
 use native.Mathlib.Omega.{arith}
 use lib.ListN.{getD}
@@ -20,7 +21,8 @@ use Rattle.costing.proofs.ErrorOfArc.{ArcFits}
 abbrev pub keptOf : Sheet → Terms → (option start : ℕ) → Kept
 keptOf s other option start = record { terms = getD (s .options) option other; discount = s .discount; from = start }
 
-pub keptOf-fits : (s : Sheet) → Fit s → (other : Terms) (option start : ℕ) → option ≤ 2 → start ≤ s .horizon → KeptFits (keptOf s other option start)
+pub keptOf-fits :
+    (s : Sheet) → Fit s → (other : Terms) (option start : ℕ) → option ≤ 2 → start ≤ s .horizon → KeptFits (keptOf s other option start)
 keptOf-fits s fit other option start known early =
     record {
       low = fit .discountLow;

@@ -63,7 +63,9 @@ arc-cost-requires : tie.Need-arc-cost-requires
 arc-cost-requires c κs =
     let d = c .before .before in
     let o = offers c in
-    (subst Fit (sym (d .parse .ensures)) (fit _ (passes (d .before))), o .known, o .forward, omega (arith, horizon-read _ _ (d .parse .ensures), o .inside))
+    let horizon = horizon-read _ _ (d .parse .ensures) in
+    let inside = o .inside in
+    (subst Fit (sym (d .parse .ensures)) (fit _ (passes (d .before))), o .known, o .forward, omega arith)
 
 accepted-requires : tie.Need-accepted-requires
 accepted-requires c κs = search needs

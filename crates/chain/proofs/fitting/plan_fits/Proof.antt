@@ -6,6 +6,10 @@ use native.Mathlib.Omega.{arith}
 use denote.Ref.{now}
 use borrow.Author.Needs.{needs}
 use borrow.Author.Tests.{not-true, not-false}
+use Rattle.sheet.specs.Sheet.{PlanningSheet}
+use Rattle.sheet.specs.Parsed.{parsed}
+use Rattle.costing.specs.Offered.{offered}
+use Rattle.chain.specs.Chain.{maintain}
 use Rattle.chain.specs.Fitting.{shaped}
 use Rattle.chain.proofs.PlanBytesLaws.{Shaped, shaped-iff}
 use Rattle.chain.proofs.FittingLaws.{fitting-unshaped, fitting-unmaintained, fitting-unrenovated, fitting-replaced}
@@ -32,16 +36,22 @@ returns-2 : tie.Need-returns-2
 returns-2 c =
     λ p read.
     let i = c .before .before in
-    sym (fitting-unmaintained p _ (well (i .before)) (i .u16-at .ensures .0) (sym (c .before .offered .ensures p read) ∙ not-true _ (c .if2 .taken)))
+    let out = sym (c .before .offered .ensures p read) ∙ not-true _ (c .if2 .taken) in
+    sym (fitting-unmaintained p _ (well (i .before)) (i .u16-at .ensures .0) out)
+
+-- maintaining is offered where the code goes on
+maintained :
+    (c : tie.Else2) (p : PlanningSheet) → c .before .before .before .before .before .before .args .sheet ≡ parsed p
+    → offered p maintain 0 (c .before .before .u16-at .result) ≡ true
+maintained c p read = sym (c .before .offered .ensures p read) ∙ not-false _ (c .if2 .left)
 
 returns-3 : tie.Need-returns-3
 returns-3 c =
     λ p read.
     let j = c .before .before in
-    let e = j .before in
-    let i = e .before .before in
-    sym (fitting-unrenovated p _ (well (i .before)) (i .u16-at .ensures .0) (sym (e .before .offered .ensures p read) ∙ not-false _ (e .if2 .left))
-    (j .u16-at2 .ensures .0) (sym (c .before .offered2 .ensures p read) ∙ not-true _ (c .if3 .taken)))
+    let i = j .before .before .before in
+    let out = sym (c .before .offered2 .ensures p read) ∙ not-true _ (c .if3 .taken) in
+    sym (fitting-unrenovated p _ (well (i .before)) (i .u16-at .ensures .0) (maintained (j .before) p read) (j .u16-at2 .ensures .0) out)
 
 returns-4 : tie.Need-returns-4
 returns-4 c =
@@ -49,11 +59,11 @@ returns-4 c =
     let m = c .before in
     let f = m .before in
     let j = f .before .before in
-    let e = j .before in
-    let i = e .before .before in
+    let i = j .before .before .before in
+    let renovated = sym (f .before .offered2 .ensures p read) ∙ not-false _ (f .if3 .left) in
     c .reaches .ensures p read
-    ∙ sym (fitting-replaced p _ (well (i .before)) (i .u16-at .ensures .0) (sym (e .before .offered .ensures p read) ∙ not-false _ (e .if2 .left))
-    (j .u16-at2 .ensures .0) (sym (f .before .offered2 .ensures p read) ∙ not-false _ (f .if3 .left)) (m .u16-at3 .ensures .0))
+    ∙ sym (fitting-replaced p _ (well (i .before)) (i .u16-at .ensures .0) (maintained (j .before) p read) (j .u16-at2 .ensures .0)
+    renovated (m .u16-at3 .ensures .0))
 
 u16-at-requires : tie.Need-u16-at-requires
 u16-at-requires c κs = omega (arith, facts c .enough)

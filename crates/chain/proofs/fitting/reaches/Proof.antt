@@ -1,5 +1,5 @@
 -- Replacements lead to the horizon: the test of what remains is the test of all. Assumes nothing.
-use Prim.Native.Nat.{ℕ, _+_, _*_}
+use Prim.Native.Nat.{_+_, _*_}
 use mathlib.Core.Path.{_≡_, refl, sym, ap, _∙_}
 use native.Mathlib.Omega.{arith}
 use lib.Dec.{eqb}
@@ -26,7 +26,8 @@ returns c =
     λ p read.
     let loop = c .before .before .before .before .loop in
     let out = sym (c .before .offered .ensures p read) ∙ not-true _ (c .if1 .taken) in
-    sym (sym (loop .inv .1 p read) ∙ reaches-stop _ (loop .at) (loop .left) (omega arith) (c .before .before .u16-at .ensures .0) p (loop .year) out)
+    let stop = reaches-stop _ (loop .at) (loop .left) (omega arith) (c .before .before .u16-at .ensures .0) p (loop .year) out in
+    sym (sym (loop .inv .1 p read) ∙ stop)
 
 returns-2 : tie.Need-returns-2 Inv-loop μ-loop
 returns-2 c =

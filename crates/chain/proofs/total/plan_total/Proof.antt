@@ -1,6 +1,5 @@
 -- The rounded total: maintaining, renovating and the replacements, whose years are in order. Assumes nothing.
 use Prim.Native.Nat.{_≤_}
-use mathlib.Core.Path.{_∙_}
 use native.Mathlib.Omega.{arith}
 use denote.Ref.{now}
 use borrow.Author.Needs.{needs}

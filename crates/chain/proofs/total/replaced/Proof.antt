@@ -1,5 +1,5 @@
 -- What replacements cost: the sum so far and the cost of what remains are the cost of all; a year adds at most `yearly`. Assumes nothing.
-use Prim.Native.Nat.{ℕ, _+_, _-_, _*_, _≤_, _<_}
+use Prim.Native.Nat.{_+_, _-_, _*_, _≤_, _<_}
 use mathlib.Core.Path.{_≡_, refl}
 use native.Mathlib.Nat.{zero-add}
 use native.Mathlib.Omega.{arith}
@@ -31,7 +31,9 @@ returns c =
     let loop = c .before .loop in
     let early = loop .inv .1 .0 .early in
     let sum = loop .inv .1 .1 .0 in (
-      λ p read. let all = loop .inv .1 .1 .1 p read in omega (arith, spent-none plan p (loop .year) (loop .at) {left = loop .left} (omega arith)),
+      λ p read.
+          let all = loop .inv .1 .1 .1 p read in
+          omega (arith, spent-none plan p (loop .year) (loop .at) {left = loop .left} (omega arith)),
       omega arith,
     )
 
@@ -46,7 +48,8 @@ next :
     (c : tie.After-u16-at Inv-loop μ-loop) →
     let loop = c .before .before .loop in
     let a = c .before .before .before .before .args in
-    (loop .year < c .u16-at .result) × Climbs (a .sheet .horizon) (c .u16-at .result) (endsAt (now (a .plan)) (loop .at + 2) (loop .left - 1))
+    let end = c .u16-at .result in
+    (loop .year < end) × Climbs (a .sheet .horizon) end (endsAt (now (a .plan)) (loop .at + 2) (loop .left - 1))
 next c =
     let loop = c .before .before .loop in
     climbs-next _ (loop .at) (loop .left) (omega arith) (c .u16-at .ensures .0) _ (loop .year) (loop .inv .1 .0)
