@@ -3,7 +3,7 @@
 -- `encode-shaped`, `decode-encode`); bytes of a plan's shape are the encoding of what is read from them (`encode-decode`); one end more
 -- and none, as a loop reads them (`ends-next`, `ends-none`). Assumes nothing.
 use Prim.Native.Nat.{ℕ, zero, suc, _+_, _-_, _*_, _/_, _%_, _^_, _≤_, _<_}
-use mathlib.Core.Path.{_≡_, refl, ap, ap₂, _∙_}
+use mathlib.Core.Path.{_≡_, refl, sym, ap, ap₂, _∙_}
 use mathlib.Core.Bool.{true}
 use mathlib.Core.Logic.{_↔_}
 use mathlib.Core.List.{List, [], _∷_, _++_, head-eq-of-cons-eq, tail-eq-of-cons-eq}
@@ -30,14 +30,14 @@ pub record Shaped (plan : List ℕ) : Type 0 where
 pub shaped-iff : (plan : List ℕ) → (shaped plan ≡ true) ↔ Shaped plan
 unfolding shaped
 shaped-iff plan =
-    let size = both-iff (leb-iff 19 (length plan)) (eqb-iff (length plan) (19 + 2 * countField plan)) in
+    let size = both-iff (leb-iff 19 (length plan)) (eqb-iff (19 + 2 * countField plan) (length plan)) in
     let mark = both-iff (both-iff (eqb-iff (getD plan 0 0) 82) (eqb-iff (getD plan 1 0) 67)) (eqb-iff (getD plan 2 0) 80) in
     let all = both-iff (both-iff size mark) (eqb-iff (u16At plan 3) 1) in (
       λ e.
           let h = all .0 e in
           let m = h .0 .1 in
-          record { enough = h .0 .0 .0; long = h .0 .0 .1; mark = (m .0 .0, m .0 .1, m .1); version = h .1 },
-      λ h. all .1 (((h .enough, h .long), ((h .mark .0, h .mark .1), h .mark .2)), h .version),
+          record { enough = h .0 .0 .0; long = sym (h .0 .0 .1); mark = (m .0 .0, m .0 .1, m .1); version = h .1 },
+      λ h. all .1 (((h .enough, sym (h .long)), ((h .mark .0, h .mark .1), h .mark .2)), h .version),
     )
 
 -- how many bytes, and how many ends

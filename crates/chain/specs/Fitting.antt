@@ -14,7 +14,7 @@ use Rattle.chain.specs.PlanBytes.{countField, decode}
 -- length not below 19 and just 19 + 2m, mark and version right
 unfoldable pub shaped : List ℕ → Bool
 shaped plan =
-    leb 19 (length plan) && eqb (length plan) (19 + 2 * countField plan)
+    leb 19 (length plan) && eqb (19 + 2 * countField plan) (length plan)
     && (eqb (getD plan 0 0) 82 && eqb (getD plan 1 0) 67 && eqb (getD plan 2 0) 80)
     && eqb (u16At plan 3) 1
 

@@ -22,7 +22,7 @@ fn shaped(plan: &[u8]) -> bool
     }
     let m = fields::u16_at(plan, 17);
     let version = fields::u16_at(plan, 3);
-    (plan.len() as u64 == 19 + 2 * m)
+    (19 + 2 * m == plan.len() as u64)
         & ((plan[0] == b'R') & (plan[1] == b'C') & (plan[2] == b'P'))
         & (version == 1)
 }

@@ -9,7 +9,7 @@ use borrow.Author.Needs.{needs}
 use borrow.Author.Tests.{not-true, not-false}
 use Rattle.sheet.specs.Sheet.{sheetOf}
 use Rattle.sheet.proofs.ParsedLaws.{horizon-read}
-use Rattle.checking.specs.Answer.{accepted}
+use Rattle.checking.specs.Answer.{accepted, refused}
 use Rattle.checking.specs.Refusals.{checked}
 use Rattle.checking.specs.Passes.{Passes}
 use Rattle.checking.specs.Fit.{Fit}
@@ -67,7 +67,7 @@ returns-2 c =
     let d = c .before .before in
     let e = d .before .before in
     let out = sym (d .plan-fits .ensures _ (d .before .parse .ensures)) ∙ not-true _ (c .before .if2 .taken) in
-    met _ _ (byte (e .before .before .before)) _ (c .refused .ensures ∙ price-unfit _ _ (passed e) out)
+    met _ _ (byte (e .before .before .before)) _ (c .refused .ensures ∙ ap (λ (n : ℕ). refused n 3) (omega arith) ∙ price-unfit _ _ (passed e) out)
 
 plan-total-requires : tie.Need-plan-total-requires
 plan-total-requires c κs =

@@ -1,4 +1,5 @@
 -- `cost` is `costed`: refused by the check, or not offered, or the cost of the arc. Assumes nothing.
+use Prim.Native.Nat.{ℕ}
 use mathlib.Core.Path.{_≡_, sym, subst, ap, _∙_}
 use mathlib.Core.Bool.{true}
 use native.Mathlib.Omega.{arith}
@@ -6,7 +7,7 @@ use borrow.Author.Needs.{needs}
 use borrow.Author.Tests.{not-true, not-false}
 use Rattle.sheet.specs.Sheet.{sheetOf}
 use Rattle.sheet.proofs.ParsedLaws.{horizon-read}
-use Rattle.checking.specs.Answer.{accepted}
+use Rattle.checking.specs.Answer.{accepted, refused}
 use Rattle.checking.specs.Refusals.{checked}
 use Rattle.checking.specs.Passes.{Passes}
 use Rattle.checking.specs.Fit.{Fit}
@@ -57,7 +58,7 @@ returns-2 : tie.Need-returns-2
 returns-2 c =
     let d = c .before .before in
     let out = sym (d .offered .ensures _ (d .before .parse .ensures)) ∙ not-true _ (c .before .if2 .taken) in
-    met _ _ _ _ _ (c .refused .ensures ∙ cost-unoffered _ _ _ _ (passed (d .before .before)) out)
+    met _ _ _ _ _ (c .refused .ensures ∙ ap (λ (n : ℕ). refused n 3) (omega arith) ∙ cost-unoffered _ _ _ _ (passed (d .before .before)) out)
 
 arc-cost-requires : tie.Need-arc-cost-requires
 arc-cost-requires c κs =

@@ -33,9 +33,7 @@ returns-2 : tie.Need-returns-2 Inv-loop μ-loop
 returns-2 c =
     λ p read.
     let loop = c .before .before .loop in
-    ap (eqb (loop .year)) (horizon-read _ p read)
-    ∙ sym (reaches-none _ p (loop .year) (loop .at) (omega arith))
-    ∙ loop .inv .1 p read
+    rw (← loop .inv .1 p read, reaches-none _ p (loop .year) (loop .at) {left = loop .left} (omega arith), horizon-read _ p read) refl
 
 loop-holds : tie.Need-loop-holds Inv-loop μ-loop
 loop-holds c = (refl, λ p read. refl)
