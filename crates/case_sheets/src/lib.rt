@@ -1,8 +1,9 @@
-// Sheets made by setting fields, for the test programs.
+// For the test programs: sheets made by setting fields, and the lines that are printed.
 
 ghost use Prim.Native.Nat.{_+_, _≤_};
 
 pub mod paper;
+pub mod show;
 
 fn low(value: u64) -> u8 {
     (value % 256) as u8

@@ -6,7 +6,7 @@ use crate::damaged::{random_sheet, LONGEST_INPUT};
 use crate::edits::{apply, edits_for};
 use crate::library;
 use crate::random::Random;
-use crate::report::{difference, least_seen, summary};
+use crate::report::{difference, Tally};
 use crate::sheet::OPTIONS;
 use crate::valid::valid_sheet;
 
@@ -22,9 +22,8 @@ pub fn possible_answers() -> impl Iterator<Item = u64> {
 }
 
 struct Comparison {
-    compared: u64,
-    /// How often each packed answer occurred.
-    seen: [u64; 256],
+    /// By the packed answer.
+    tally: Tally<u64>,
 }
 
 impl Comparison {
@@ -34,8 +33,8 @@ impl Comparison {
         if answer != expected {
             return Err(difference(answer, expected, sheet));
         }
-        self.compared += 1;
-        self.seen[expected as usize] += 1;
+        self.tally.compared += 1;
+        self.tally.saw(expected);
         Ok(())
     }
 
@@ -71,24 +70,17 @@ impl Comparison {
         }
         Ok(())
     }
-
-    fn least_seen(&self) -> Result<u64, String> {
-        let counts =
-            possible_answers().map(|packed| (described(packed), self.seen[packed as usize]));
-        least_seen(counts, LEAST_SEEN)
-    }
 }
 
 pub fn compare_all(seed: u64, count: u64) -> Result<String, String> {
     let mut random = Random(seed);
     let mut comparison = Comparison {
-        compared: 0,
-        seen: [0; 256],
+        tally: Tally::new(),
     };
     comparison.sweep(&mut random)?;
-    while comparison.compared < count {
+    while comparison.tally.compared < count {
         comparison.compare(&random_sheet(&mut random))?;
     }
-    let least = comparison.least_seen()?;
-    Ok(summary(comparison.compared, "sheets", least))
+    let answers = possible_answers().map(|packed| (packed, described(packed)));
+    comparison.tally.summary("sheets", answers, LEAST_SEEN)
 }

@@ -7,10 +7,9 @@ use crate::cost::{answer, cost, Arc, Fault, Refusal};
 use crate::damaged::random_sheet;
 use crate::library;
 use crate::random::Random;
-use crate::report::{difference, least_seen, summary};
+use crate::report::{difference, Tally};
 use crate::sheet::{of_option, unsigned, LONGEST};
 use crate::sheets::{corner_sheet, long_sheet, small_sheet};
-use std::collections::BTreeMap;
 
 /// Every kind of outcome must occur this often, or the arcs test too little.
 const LEAST_SEEN: u64 = 100;
@@ -89,8 +88,7 @@ impl Kind {
 }
 
 struct Comparison {
-    compared: u64,
-    seen: BTreeMap<Kind, u64>,
+    tally: Tally<Kind>,
 }
 
 impl Comparison {
@@ -102,8 +100,8 @@ impl Comparison {
         if answer != expected {
             return Err(format!("{arc:?}: {}", difference(answer, expected, sheet)));
         }
-        self.compared += 1;
-        *self.seen.entry(Kind::of(sheet, arc, outcome)).or_insert(0) += 1;
+        self.tally.compared += 1;
+        self.tally.saw(Kind::of(sheet, arc, outcome));
         Ok(outcome.is_ok())
     }
 
@@ -174,15 +172,12 @@ impl Comparison {
 pub fn compare_costs(seed: u64) -> Result<String, String> {
     let mut random = Random(seed);
     let mut comparison = Comparison {
-        compared: 0,
-        seen: BTreeMap::new(),
+        tally: Tally::new(),
     };
     comparison.small_sheets(&mut random)?;
     comparison.near_limits(&mut random, long_sheet, LONG_SHEETS)?;
     comparison.near_limits(&mut random, corner_sheet, CORNER_SHEETS)?;
     comparison.damaged_sheets(&mut random)?;
-    let seen = |kind| comparison.seen.get(&kind).copied().unwrap_or(0);
-    let counts = Kind::all().map(|kind| (kind.described(), seen(kind)));
-    let least = least_seen(counts, LEAST_SEEN)?;
-    Ok(summary(comparison.compared, "arcs", least))
+    let kinds = Kind::all().map(|kind| (kind, kind.described()));
+    comparison.tally.summary("arcs", kinds, LEAST_SEEN)
 }

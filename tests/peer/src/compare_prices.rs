@@ -8,10 +8,9 @@ use crate::plan::{read, written, Chain, Missing};
 use crate::plans::*;
 use crate::price::{answer, price, Fault, Refusal};
 use crate::random::Random;
-use crate::report::{difference, hex, least_seen, summary};
+use crate::report::{difference, hex, Tally};
 use crate::sheet::{of_option, unsigned, HORIZON, LONGEST};
 use crate::sheets::{chained_sheet, corner_sheet, long_sheet, small_sheet};
-use std::collections::BTreeMap;
 
 /// Every kind of outcome must occur this often, or the plans test too little.
 const LEAST_SEEN: u64 = 200;
@@ -156,8 +155,7 @@ impl Kind {
 }
 
 struct Comparison {
-    compared: u64,
-    seen: BTreeMap<Kind, u64>,
+    tally: Tally<Kind>,
 }
 
 impl Comparison {
@@ -173,16 +171,12 @@ impl Comparison {
                 plan.len()
             ));
         }
-        self.compared += 1;
-        self.count(Kind::of(sheet, plan, &outcome));
+        self.tally.compared += 1;
+        self.tally.saw(Kind::of(sheet, plan, &outcome));
         if outcome.is_ok() && unsigned(sheet, HORIZON) == 300 {
-            self.count(Kind::PricedTo300);
+            self.tally.saw(Kind::PricedTo300);
         }
         Ok(())
-    }
-
-    fn count(&mut self, kind: Kind) {
-        *self.seen.entry(kind).or_insert(0) += 1;
     }
 
     fn compare_all(&mut self, sheet: &[u8], plans: Vec<Vec<u8>>) -> Result<(), String> {
@@ -268,8 +262,7 @@ impl Comparison {
 pub fn compare_prices(seed: u64) -> Result<String, String> {
     let mut random = Random(seed);
     let mut comparison = Comparison {
-        compared: 0,
-        seen: BTreeMap::new(),
+        tally: Tally::new(),
     };
     comparison.some_plans(&mut random, chained_sheet, CHAINED_SHEETS)?;
     comparison.some_plans(&mut random, small_sheet, SMALL_SHEETS)?;
@@ -278,8 +271,6 @@ pub fn compare_prices(seed: u64) -> Result<String, String> {
     comparison.swept_plans(&mut random)?;
     comparison.corner_plans(&mut random)?;
     comparison.damaged_sheets(&mut random)?;
-    let seen = |kind| comparison.seen.get(&kind).copied().unwrap_or(0);
-    let counts = Kind::all().map(|kind| (kind.described(), seen(kind)));
-    let least = least_seen(counts, LEAST_SEEN)?;
-    Ok(summary(comparison.compared, "plans", least))
+    let kinds = Kind::all().map(|kind| (kind, kind.described()));
+    comparison.tally.summary("plans", kinds, LEAST_SEEN)
 }
