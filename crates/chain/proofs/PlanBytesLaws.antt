@@ -48,9 +48,9 @@ bytes-length zero x = refl
 bytes-length (suc n) x = ap suc (bytes-length n (x / 256))
 
 pub endBytes-length : (ks : List ℕ) → length (endBytes ks) ≡ 2 * length ks
-unfolding endBytes bytes
+unfolding endBytes
 endBytes-length [] = refl
-endBytes-length (k ∷ ks) = omega (arith, endBytes-length ks)
+endBytes-length (k ∷ ks) = omega (arith, length-append (bytes 2 k) (endBytes ks), bytes-length 2 k, endBytes-length ks)
 
 pub encode-length : (total : ℕ) (c : Chain) → length (encode total c) ≡ 19 + 2 * length (c .ends)
 unfolding encode header bytes

@@ -20,8 +20,8 @@ use Rattle.chain.specs.PlanBytes.{encode, totalField, decode}
 use Rattle.chain.specs.Fitting.{fitting}
 use Rattle.chain.specs.Pricing.{pricing, priced, PricedAt}
 use Rattle.chain.specs.Error.{TotalNear}
-use Rattle.chain.proofs.PlanBytesLaws.{Shaped, encode-shaped, decode-encode, encode-decode}
-use Rattle.chain.proofs.FeasibleLaws.{narrow-of-feasible}
+use Rattle.chain.proofs.PlanBytesLaws.{Shaped, encode-shaped, encode-decode}
+use Rattle.chain.proofs.FeasibleLaws.{narrow-of-feasible, decode-feasible}
 use Rattle.chain.proofs.FittingLaws.{fitting-iff}
 use Rattle.chain.proofs.TotalLaws.{roundedTotal-lt}
 use Rattle.chain.proofs.ErrorOfChain.{total-near}
@@ -66,7 +66,7 @@ module _ (s plan : List ℕ) where
       let horizon = h .header .horizon .1 in
       let narrow = narrow-of-feasible (sheetOf s) (omega arith) c feasible in
       let shape = subst Shaped (sym encoded) (encode-shaped field c narrow) in
-      let same = ap decode encoded ∙ decode-encode field c narrow in
+      let same = ap decode encoded ∙ decode-feasible (sheetOf s) (omega arith) c feasible field in
       let fits = fitting-iff (sheetOf s) plan .1 (shape, subst (Feasible (sheetOf s)) (sym same) feasible) in
       sym (price-fit (checked-iff s .1 h) fits) ∙ ap (λ (d : Chain). accepted (roundedTotal (sheetOf s) d)) same
 

@@ -1,4 +1,4 @@
--- How far rounding may lead a chain's total astray. Definitions only.
+-- How far a chain's rounded total may lie from its exact value. Definitions only.
 use Prim.Native.Nat.{ℕ, _+_, _*_, _≤_}
 use Rattle.sheet.specs.Sheet.{PlanningSheet}
 use Rattle.costing.specs.Exact.{common}

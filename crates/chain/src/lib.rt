@@ -20,7 +20,7 @@ const RENOVATE: u64 = 1;
 
 const REPLACE: u64 = 2;
 
-// The rounded total of the chain in plan bytes from any hand.
+// The rounded total of the chain in plan bytes, whoever made them.
 pub fn price(sheet: &[u8], plan: &[u8]) -> Answer
     ensures answer { λ r. ⌜ r ≡ priced (now (sheet .entry)) (now (plan .entry)) ⌝ }
     ensures accepted { λ r. ⌜ ((total : ℕ) → ((r .number ≡ 0) × (r .total ≡ total)) ↔ PricedAt (now (sheet .entry)) (now (plan .entry)) total) ⌝ }

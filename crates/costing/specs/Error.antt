@@ -1,4 +1,4 @@
--- How far rounding may lead a payment and an arc astray. Definitions only.
+-- How far the rounded value of a payment and of an arc may lie from the exact one. Definitions only.
 use Prim.Native.Nat.{ℕ, _+_, _*_, _≤_}
 use Rattle.costing.specs.Step.{above, below}
 use Rattle.costing.specs.Payment.{Payment, rounded}
