@@ -52,33 +52,34 @@ unfolding walkAt
 walkAt-years a n = refl
 
 pub walk-zero :
-    (a : Kept) {c m e : ℕ}
-    → c ≡ rounded (a .discount) (once (a .terms .investment .amount) (a .terms .investment .grow) (a .from))
-    → m ≡ rounded (a .discount) (once (a .terms .maintenance .amount) (a .terms .maintenance .grow) (a .from))
-    → e ≡ rounded (a .discount) (once (a .terms .electricity .amount) (a .terms .electricity .grow) (a .from))
+    (a : Kept) {by c m e : ℕ}
+    → by ≡ a .discount
+    → c ≡ rounded by (once (a .terms .investment .amount) (a .terms .investment .grow) (a .from))
+    → m ≡ rounded by (once (a .terms .maintenance .amount) (a .terms .maintenance .grow) (a .from))
+    → e ≡ rounded by (once (a .terms .electricity .amount) (a .terms .electricity .grow) (a .from))
     → walk c m e 0 ≡ walkAt a 0
 unfolding walkAt investment maintenance electricity
-walk-zero a p q s =
-    let p' = p ∙ sym (Sum.walked-zero (rounded (a .discount)) a) in
-    let q' = q ∙ inYear-zero (a .discount) (a .terms .maintenance) (a .from) in
-    let s' = s ∙ inYear-zero (a .discount) (a .terms .electricity) (a .from) in
+walk-zero a number p q s =
+    let p' = rw number at p ∙ sym (Sum.walked-zero (rounded (a .discount)) a) in
+    let q' = rw number at q ∙ inYear-zero (a .discount) (a .terms .maintenance) (a .from) in
+    let s' = rw number at s ∙ inYear-zero (a .discount) (a .terms .electricity) (a .from) in
     λ i. walk (p' i) (q' i) (s' i) 0
 
 module _ (a : Kept) (w : Walk) (stands : w ≡ walkAt a (w .years)) (due m e : ℕ)
-    (falls : due ≡ worth a (overhaulsAt a (w .years)))
-    (serves : m ≡ inService (a .terms .maintenance .grow) (a .terms .maintenance .age) (a .discount) (w .maintenance .0))
-    (powers : e ≡ inService (a .terms .electricity .grow) (a .terms .electricity .age) (a .discount) (w .electricity .0)) where
+    (falls : due ≡ worth a (overhaulsAt a (w .years))) {by : ℕ} (number : by ≡ a .discount)
+    (serves : m ≡ inService (a .terms .maintenance .grow) (a .terms .maintenance .age) by (w .maintenance .0))
+    (powers : e ≡ inService (a .terms .electricity .grow) (a .terms .electricity .age) by (w .electricity .0)) where
   next-maintenance : m ≡ rounded (a .discount) (maintenance a (suc (w .years)))
   unfolding maintenance
   next-maintenance =
       inYear-suc (a .discount) (a .terms .maintenance) (a .from) (w .years)
-      (ap (λ (x : Walk). x .maintenance .0) stands ∙ walkAt-maintenance a (w .years)) serves
+      (ap (λ (x : Walk). x .maintenance .0) stands ∙ walkAt-maintenance a (w .years)) (rw number at serves)
 
   next-electricity : e ≡ rounded (a .discount) (electricity a (suc (w .years)))
   unfolding electricity
   next-electricity =
       inYear-suc (a .discount) (a .terms .electricity) (a .from) (w .years)
-      (ap (λ (x : Walk). x .electricity .0) stands ∙ walkAt-electricity a (w .years)) powers
+      (ap (λ (x : Walk). x .electricity .0) stands ∙ walkAt-electricity a (w .years)) (rw number at powers)
 
   next-cost : w .cost .0 + due + m + e ≡ worth a (walked a (suc (w .years)))
   next-cost =
@@ -136,12 +137,12 @@ unfolding dueBy
 dueBy-zero a n = sym (Sum.forEach-zero (rounded (a .discount)) _)
 
 pub dueBy-suc :
-    (a : Kept) (n k : ℕ)
+    (a : Kept) (n k : ℕ) {by : ℕ} → by ≡ a .discount
     → let o = a .terms .overhauls in
     let age = getD (o .ages) k 0 in
-    dueBy a n k + worth a (when (eqb age n) (once (getD (o .amounts) k 0) (o .grow) (a .from + age))) ≡ dueBy a n (k + 1)
+    dueBy a n k + total (rounded by) (when (eqb age n) (once (getD (o .amounts) k 0) (o .grow) (a .from + age))) ≡ dueBy a n (k + 1)
 unfolding dueBy overhaul ageOf
-dueBy-suc a n k = rw (add-one k) (sym (Sum.forEach-suc (rounded (a .discount)) k _))
+dueBy-suc a n k number = rw (number, add-one k) (sym (Sum.forEach-suc (rounded (a .discount)) k _))
 
 pub dueBy-all : (a : Kept) (n : ℕ) → dueBy a n (a .terms .overhauls .count) ≡ worth a (overhaulsAt a n)
 unfolding dueBy overhaulsAt

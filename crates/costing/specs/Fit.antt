@@ -1,6 +1,9 @@
 -- What the code of the steps asks so that 64 bits suffice. `RoomLaws.antt`, `SizeLaws.antt` and `CostLaws.antt` derive it from the facts
 -- of the check. Definitions only.
 use Prim.Native.Nat.{ℕ, _*_, _≤_}
+use mathlib.Core.Path.{_≡_}
+use Rattle.division.specs.Division.{Ready}
+use Rattle.division.specs.declared.Divisor.{Divisor}
 use Rattle.checking.specs.Fit.{TermsFit}
 use Rattle.costing.specs.declared.Kept.{Kept}
 
@@ -23,6 +26,11 @@ pub record KeptFits (a : Kept) : Type 0 where
   pub high : a .discount ≤ 1_200_000
   pub terms : TermsFit (a .discount) (a .terms)
   pub from : a .from ≤ 300
+
+-- the divisor that the code has at hand for a discount factor
+pub record Divides (d : Divisor) (discount : ℕ) : Type 0 where
+  pub ready : Ready d
+  pub number : d .by ≡ discount
 
 -- the most that one payment can be: 10^9 currency units, and a unit for each of 300 years in service
 abbrev pub most : ℕ

@@ -6,24 +6,27 @@ ghost use lib.Dec.{eqb};
 ghost use Rattle.costing.specs.Lists.{total};
 ghost use Rattle.costing.specs.Payment.{rounded};
 ghost use Rattle.costing.specs.Arc.{once, when, paid, worth};
-ghost use Rattle.costing.specs.Fit.{PlainFits, KeptFits};
+ghost use Rattle.division.specs.Division.{Ready};
+ghost use Rattle.costing.specs.Fit.{PlainFits, KeptFits, Divides};
 ghost use Rattle.costing.specs.Walk.{overhaulsAt, walkAt};
 use crate::Kept;
 use crate::Units;
 use crate::Walk;
+use division::Divisor;
 
 // The present value of an amount paid once, in a year.
-fn paid_once(amount: u64, grow: u64, discount: u64, year: u64) -> Units
-    requires { ⌜ PlainFits grow discount (amount * 10_000) ⌝ }
-    ensures { λ r. ⌜ r .0 ≡ rounded discount (once amount grow year) ⌝ }
+fn paid_once(amount: u64, grow: u64, discount: Divisor, year: u64) -> Units
+    requires { ⌜ PlainFits grow (discount .by) (amount * 10_000) × Ready discount ⌝ }
+    ensures { λ r. ⌜ r .0 ≡ rounded (discount .by) (once amount grow year) ⌝ }
 {
     Units(amount * 10_000).plain_years(grow, discount, year)
 }
 
 // What an overhaul costs in year n of an arc, from 0: nothing unless n is its age.
-fn overhaul_at(age: u64, amount: u64, grow: u64, discount: u64, from: u64, n: u64) -> Units
-    requires { ⌜ PlainFits grow discount (amount * 10_000) × (from ≤ 300) × (n ≤ 300) ⌝ }
-    ensures { λ r. ⌜ r .0 ≡ total (rounded discount) (when (eqb age n) (once amount grow (from + age))) ⌝ }
+fn overhaul_at(age: u64, amount: u64, grow: u64, discount: Divisor, from: u64, n: u64) -> Units
+    requires { ⌜ PlainFits grow (discount .by) (amount * 10_000) × Ready discount ⌝ }
+    requires { ⌜ (from ≤ 300) × (n ≤ 300) ⌝ }
+    ensures { λ r. ⌜ r .0 ≡ total (rounded (discount .by)) (when (eqb age n) (once amount grow (from + age))) ⌝ }
 {
     if age == n {
         return paid_once(amount, grow, discount, from + n);
@@ -33,8 +36,8 @@ fn overhaul_at(age: u64, amount: u64, grow: u64, discount: u64, from: u64, n: u6
 
 impl Kept {
     // What the overhauls of age n cost.
-    fn overhauls_at(self, n: u64) -> Units
-        requires { ⌜ KeptFits self × (n ≤ 300) ⌝ }
+    fn overhauls_at(self, discount: Divisor, n: u64) -> Units
+        requires { ⌜ KeptFits self × Divides discount (self .discount) × (n ≤ 300) ⌝ }
         ensures { λ r. ⌜ r .0 ≡ worth self (overhaulsAt self n) ⌝ }
     {
         let terms = self.terms;
@@ -44,21 +47,14 @@ impl Kept {
         let count = overhauls.count as usize;
         let mut sum = 0;
         for j in 0..count {
-            sum += overhaul_at(
-                ages[j],
-                amounts[j],
-                overhauls.grow,
-                self.discount,
-                self.from,
-                n,
-            ).0;
+            sum += overhaul_at(ages[j], amounts[j], overhauls.grow, discount, self.from, n).0;
         }
         Units(sum)
     }
 
     // The arc before its first year: the investment is paid, and the running amounts stand at the start.
-    pub fn open(self) -> Walk
-        requires { ⌜ KeptFits self ⌝ }
+    pub fn open(self, discount: Divisor) -> Walk
+        requires { ⌜ KeptFits self × Divides discount (self .discount) ⌝ }
         ensures { λ r. ⌜ r ≡ walkAt self 0 ⌝ }
     {
         let terms = self.terms;
@@ -66,24 +62,24 @@ impl Kept {
         let m = terms.maintenance;
         let e = terms.electricity;
         Walk {
-            cost: paid_once(i.amount, i.grow, self.discount, self.from),
-            maintenance: paid_once(m.amount, m.grow, self.discount, self.from),
-            electricity: paid_once(e.amount, e.grow, self.discount, self.from),
+            cost: paid_once(i.amount, i.grow, discount, self.from),
+            maintenance: paid_once(m.amount, m.grow, discount, self.from),
+            electricity: paid_once(e.amount, e.grow, discount, self.from),
             years: 0,
         }
     }
 
     // The cost of an arc of that many years.
-    pub fn cost(self, years: u64) -> Units
-        requires { ⌜ KeptFits self × (years ≤ 300) ⌝ }
+    pub fn cost(self, discount: Divisor, years: u64) -> Units
+        requires { ⌜ KeptFits self × Divides discount (self .discount) × (years ≤ 300) ⌝ }
         ensures { λ r. ⌜ r .0 ≡ worth self (paid self years) ⌝ }
     {
         if years == 0 {
             return Units(0);
         }
-        let mut walk = self.open();
+        let mut walk = self.open(discount);
         for n in 0..years {
-            walk = walk.year(self, self.overhauls_at(n));
+            walk = walk.year(self, discount, self.overhauls_at(discount, n));
         }
         walk.cost
     }
@@ -91,8 +87,8 @@ impl Kept {
 
 impl Walk {
     // One year more; `due` is what the overhauls of that year cost.
-    pub fn year(self, kept: Kept, due: Units) -> Walk
-        requires { ⌜ KeptFits kept × (self .years < 300) ⌝ }
+    pub fn year(self, kept: Kept, discount: Divisor, due: Units) -> Walk
+        requires { ⌜ KeptFits kept × Divides discount (kept .discount) × (self .years < 300) ⌝ }
         requires { ⌜ self ≡ walkAt kept (self .years) ⌝ }
         requires { ⌜ due .0 ≡ worth kept (overhaulsAt kept (self .years)) ⌝ }
         ensures { λ r. ⌜ r ≡ walkAt kept (self .years + 1) ⌝ }
@@ -101,13 +97,15 @@ impl Walk {
         let m = terms.maintenance;
         let e = terms.electricity;
         let cost = self.cost;
-        let maintenance = self.maintenance.in_service(m.grow, m.age, kept.discount);
-        let electricity = self.electricity.in_service(e.grow, e.age, kept.discount);
+        let maintenance = self.maintenance.in_service(m.grow, m.age, discount);
+        let electricity = self.electricity.in_service(e.grow, e.age, discount);
+        let sum = cost.0 + due.0 + maintenance.0 + electricity.0;
+        let years = self.years + 1;
         Walk {
-            cost: Units(cost.0 + due.0 + maintenance.0 + electricity.0),
+            cost: Units(sum),
             maintenance: maintenance,
             electricity: electricity,
-            years: self.years + 1,
+            years: years,
         }
     }
 }

@@ -14,6 +14,7 @@ ghost use Rattle.costing.specs.Costing.{costed};
 ghost use Rattle.costing.specs.Error.{WithinAllowance};
 ghost use Rattle.costing.specs.Fit.{yearly};
 use checking::Answer;
+use division::Divisor;
 use sheet::Sheet;
 use sheet::Terms;
 
@@ -51,7 +52,7 @@ pub fn arc_cost(sheet: Sheet, option: u64, start: u64, end: u64) -> Units
         discount: sheet.discount,
         from: start,
     };
-    kept.cost(end - start)
+    kept.cost(Divisor::of(sheet.discount), end - start)
 }
 
 // The cost of an arc: of an option kept from year start to year end.

@@ -1,10 +1,12 @@
-// One year's step: document 01, 'One year's step'. A rate is given by its factor in millionths.
+// One year's step: document 01, 'One year's step'. A rate is given by its factor in millionths; the discount factor as a divisor.
 
 ghost use mathlib.Core.Path.{_≡_};
 ghost use Prim.Native.Nat.{_*_, _<_, _≤_};
 ghost use Rattle.costing.specs.Step.{divided, plain, inService, repeated};
 ghost use Rattle.costing.specs.Fit.{PlainFits, ServiceFits};
+ghost use Rattle.division.specs.Division.{Ready};
 use crate::Units;
+use division::Divisor;
 
 // n / d to the nearest whole unit, a half going up.
 fn nearest(n: u64, d: u64) -> u64
@@ -14,28 +16,36 @@ fn nearest(n: u64, d: u64) -> u64
     (n + d / 2) / d
 }
 
+// The same, by a divisor that is at hand.
+fn nearest_by(n: u64, d: Divisor) -> u64
+    requires { ⌜ Ready d × (d .by ≤ 1_300_000) × (n ≤ 18_000_000_000_000_000_000) ⌝ }
+    ensures { λ r. ⌜ r ≡ divided n (d .by) ⌝ }
+{
+    d.quotient(n + d.by / 2)
+}
+
 impl Units {
     // One year forward.
-    pub fn plain(self, grow: u64, discount: u64) -> Units
-        requires { ⌜ PlainFits grow discount (self .0) ⌝ }
-        ensures { λ r. ⌜ r .0 ≡ plain grow discount (self .0) ⌝ }
+    pub fn plain(self, grow: u64, discount: Divisor) -> Units
+        requires { ⌜ PlainFits grow (discount .by) (self .0) × Ready discount ⌝ }
+        ensures { λ r. ⌜ r .0 ≡ plain grow (discount .by) (self .0) ⌝ }
     {
-        Units(nearest(self.0 * grow, discount))
+        Units(nearest_by(self.0 * grow, discount))
     }
 
     // One year forward in service: the ageing first.
-    pub fn in_service(self, grow: u64, age: u64, discount: u64) -> Units
-        requires { ⌜ ServiceFits grow age discount (self .0) ⌝ }
-        ensures { λ r. ⌜ r .0 ≡ inService grow age discount (self .0) ⌝ }
+    pub fn in_service(self, grow: u64, age: u64, discount: Divisor) -> Units
+        requires { ⌜ ServiceFits grow age (discount .by) (self .0) × Ready discount ⌝ }
+        ensures { λ r. ⌜ r .0 ≡ inService grow age (discount .by) (self .0) ⌝ }
     {
         let aged = nearest(self.0 * age, 1_000_000);
-        Units(nearest(aged * grow, discount))
+        Units(nearest_by(aged * grow, discount))
     }
 
     // That many years forward.
-    pub fn plain_years(self, grow: u64, discount: u64, years: u64) -> Units
-        requires { ⌜ PlainFits grow discount (self .0) ⌝ }
-        ensures { λ r. ⌜ r .0 ≡ repeated years (plain grow discount) (self .0) ⌝ }
+    pub fn plain_years(self, grow: u64, discount: Divisor, years: u64) -> Units
+        requires { ⌜ PlainFits grow (discount .by) (self .0) × Ready discount ⌝ }
+        ensures { λ r. ⌜ r .0 ≡ repeated years (plain grow (discount .by)) (self .0) ⌝ }
     {
         let mut now = self;
         for k in 0..years {

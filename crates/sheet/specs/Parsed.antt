@@ -1,6 +1,7 @@
 -- How the code holds a sheet: the same fields, with each rate as its factor, 1,000,000 + rate, and the overhauls' ages and amounts in
 -- two lists of eight. Definitions only.
 use Prim.Native.Nat.{ℕ, zero, suc, _+_}
+use mathlib.Core.Path.{_≡_}
 use mathlib.Core.List.{List, [], _∷_}
 use Rattle.sheet.specs.Sheet.{Expense, OptionRecord, PlanningSheet, factor}
 use Rattle.sheet.specs.declared.Flow.{Flow}
@@ -43,3 +44,7 @@ parsed p =
       discount = 1_000_000 + p .rate;
       options = listed 3 (λ k. termsOf (p .option k));
     }
+
+-- the parsed form of some record
+abbrev pub IsParsed : Sheet → Type 0
+IsParsed s = (p : PlanningSheet) × (s ≡ parsed p)

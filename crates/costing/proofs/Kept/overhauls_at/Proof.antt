@@ -8,10 +8,10 @@ use Rattle.costing.proofs.Kept.overhauls_at.Statement.{statement}
 use Rattle.costing.proofs.Kept.overhauls_at.Tie as tie
 
 abbrev Inv-loop : tie.InvT-loop
-Inv-loop self n overhauls ages amounts count sum₀ j₀ sum j = (j ≤ count) × (sum ≡ dueBy self n j)
+Inv-loop self discount n overhauls ages amounts count sum₀ j₀ sum j = (j ≤ count) × (sum ≡ dueBy self n j)
 
 abbrev μ-loop : tie.MeasureT-loop
-μ-loop self n overhauls ages amounts count sum₀ j₀ sum j = count - j
+μ-loop self discount n overhauls ages amounts count sum₀ j₀ sum j = count - j
 
 loop-holds : tie.Need-loop-holds Inv-loop μ-loop
 loop-holds c = (omega arith, dueBy-zero _ _)
@@ -32,14 +32,15 @@ overhaul-at-requires : tie.Need-overhaul-at-requires Inv-loop μ-loop
 overhaul-at-requires c κs =
     let s = c .before .before .before .before .before .before in
     let h = s .pre .0 in
+    let d = s .pre .1 in
     let o = h .terms .overhauls in
-    (amount-fits _ _ _ (h .low) (h .high) (o .grow .high) (o .amount _ (c .loop-test .taken)), h .from, s .pre .1)
+    ((rw (d .number) (amount-fits _ _ _ (h .low) (h .high) (o .grow .high) (o .amount _ (c .loop-test .taken))), d .ready), (h .from, s .pre .2))
 
 sum-next :
     (c : tie.After-overhaul-at Inv-loop μ-loop) →
     let a = c .before .before .before .before .before .before .before .args in
     c .before .before .loop .sum + c .overhaul-at .result .0 ≡ dueBy (a .self) (a .n) (c .before .before .loop .j + 1)
-sum-next c = rw (c .before .before .loop .inv .1, c .overhaul-at .ensures) (dueBy-suc _ _ _)
+sum-next c = rw (c .before .before .loop .inv .1, c .overhaul-at .ensures) (dueBy-suc _ _ _ (c .before .before .before .before .before .before .before .pre .1 .number))
 
 add-sum : tie.Need-add-sum Inv-loop μ-loop
 add-sum c =

@@ -11,21 +11,22 @@ returns : tie.Need-returns
 unfolding inService plain
 returns c =
     let a = c .before .before .before .args in
-    c .nearest2 .ensures ∙ ap (λ (aged : ℕ). divided (aged * a .grow) (a .discount)) (c .before .nearest .ensures)
+    c .nearest-by .ensures ∙ ap (λ (aged : ℕ). divided (aged * a .grow) (a .discount .by)) (c .before .nearest .ensures)
 
 mul-nearest : tie.Need-mul-nearest
-mul-nearest c = omega (arith, age-room _ _ _ _ (c .before .pre))
+mul-nearest c = omega (arith, age-room _ _ _ _ (c .before .pre .0))
 
 nearest-requires : tie.Need-nearest-requires
-nearest-requires c κs = (omega arith, omega arith, omega (arith, age-room _ _ _ _ (c .before .pre)))
+nearest-requires c κs = (omega arith, omega arith, omega (arith, age-room _ _ _ _ (c .before .pre .0)))
 
-mul-nearest-2 : tie.Need-mul-nearest-2
-mul-nearest-2 c = rw (c .nearest .ensures) (omega (arith, aged-fits _ _ _ _ (c .before .before .pre)))
+mul-nearest-by : tie.Need-mul-nearest-by
+mul-nearest-by c = rw (c .nearest .ensures) (omega (arith, aged-fits _ _ _ _ (c .before .before .pre .0)))
 
-nearest-requires-2 : tie.Need-nearest-requires-2
-nearest-requires-2 c κs =
-    rw (c .nearest .ensures) (omega arith, omega arith, omega (arith, aged-fits _ _ _ _ (c .before .before .pre)))
+nearest-by-requires : tie.Need-nearest-by-requires
+nearest-by-requires c κs =
+    let s = c .before .before .pre in
+    rw (c .nearest .ensures) (s .1, omega arith, omega (arith, aged-fits _ _ _ _ (s .0)))
 
 pub in-service-spec : {M : Type 1} → statement M
 in-service-spec =
-    tie.close (tie.spec mul-nearest nearest-requires mul-nearest-2 nearest-requires-2 returns)
+    tie.close (tie.spec mul-nearest nearest-requires mul-nearest-by nearest-by-requires returns)

@@ -5,16 +5,17 @@ use Rattle.costing.proofs.RoomLaws.{plain-room}
 use Rattle.costing.proofs.Units.plain.Statement.{statement}
 use Rattle.costing.proofs.Units.plain.Tie as tie
 
-mul-nearest : tie.Need-mul-nearest
-mul-nearest c = omega (arith, plain-room _ _ _ (c .before .pre))
+mul-nearest-by : tie.Need-mul-nearest-by
+mul-nearest-by c = omega (arith, plain-room _ _ _ (c .before .pre .0))
 
-nearest-requires : tie.Need-nearest-requires
-nearest-requires c κs =
-    (omega arith, omega arith, omega (arith, plain-room _ _ _ (c .before .pre)))
+nearest-by-requires : tie.Need-nearest-by-requires
+nearest-by-requires c κs =
+    let s = c .before .pre in
+    (s .1, omega arith, omega (arith, plain-room _ _ _ (s .0)))
 
 returns : tie.Need-returns
 unfolding plain
-returns c = c .nearest .ensures
+returns c = c .nearest-by .ensures
 
 pub plain-spec : {M : Type 1} → statement M
-plain-spec = tie.close (tie.spec mul-nearest nearest-requires returns)
+plain-spec = tie.close (tie.spec mul-nearest-by nearest-by-requires returns)

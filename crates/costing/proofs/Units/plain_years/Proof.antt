@@ -9,7 +9,7 @@ use Rattle.costing.proofs.Units.plain_years.Statement.{statement}
 use Rattle.costing.proofs.Units.plain_years.Tie as tie
 
 abbrev Inv-loop : tie.InvT-loop
-Inv-loop grow discount years now₀ k₀ now k = (k ≤ years) × (now .0 ≡ repeated k (plain grow discount) (now₀ .0))
+Inv-loop grow discount years now₀ k₀ now k = (k ≤ years) × (now .0 ≡ repeated k (plain grow (discount .by)) (now₀ .0))
 
 abbrev μ-loop : tie.MeasureT-loop
 μ-loop grow discount years now₀ k₀ now k = years - k
@@ -19,7 +19,9 @@ unfolding repeated
 loop-holds c = (omega arith, refl)
 
 plain-requires : tie.Need-plain-requires Inv-loop μ-loop
-plain-requires c κs = rw (c .before .loop .inv .1) (plains-fit _ _ _ _ (c .before .before .pre))
+plain-requires c κs =
+    let s = c .before .before .pre in
+    (rw (c .before .loop .inv .1) (plains-fit _ _ _ _ (s .0)), s .1)
 
 add-k : tie.Need-add-k Inv-loop μ-loop
 add-k c = omega arith

@@ -13,22 +13,28 @@ use Rattle.costing.proofs.Walk.year.Tie as tie
 returns : tie.Need-returns
 returns c =
     let s = c .before .before .before .before .before .before .before .before .before .before .before in
-    walk-suc (s .args .kept) (s .args .self) (s .pre .1 .0) _ _ _ (s .pre .1 .1)
+    walk-suc (s .args .kept) (s .args .self) (s .pre .1 .0) _ _ _ (s .pre .1 .1) (s .pre .0 .1 .number)
     (c .before .before .before .before .before .before .in-service .ensures) (c .before .before .before .before .before .in-service2 .ensures)
 
 in-service-requires : tie.Need-in-service-requires
 in-service-requires c κs =
     let s = c .before .before .before .before in
     let h = s .pre .0 .0 in
-    rw (ap (λ (w : Walk). w .maintenance .0) (s .pre .1 .0) ∙ walkAt-maintenance _ _)
-    (inYear-fits _ _ _ _ (h .low) (h .high) (h .terms .maintenance) (omega arith))
+    let d = s .pre .0 .1 in (
+      rw (d .number, ap (λ (w : Walk). w .maintenance .0) (s .pre .1 .0) ∙ walkAt-maintenance _ _)
+          (inYear-fits _ _ _ _ (h .low) (h .high) (h .terms .maintenance) (omega arith)),
+      d .ready,
+    )
 
 in-service-requires-2 : tie.Need-in-service-requires-2
 in-service-requires-2 c κs =
     let s = c .before .before .before .before .before in
     let h = s .pre .0 .0 in
-    rw (ap (λ (w : Walk). w .electricity .0) (s .pre .1 .0) ∙ walkAt-electricity _ _)
-    (inYear-fits _ _ _ _ (h .low) (h .high) (h .terms .electricity) (omega arith))
+    let d = s .pre .0 .1 in (
+      rw (d .number, ap (λ (w : Walk). w .electricity .0) (s .pre .1 .0) ∙ walkAt-electricity _ _)
+          (inYear-fits _ _ _ _ (h .low) (h .high) (h .terms .electricity) (omega arith)),
+      d .ready,
+    )
 
 -- the whole sum
 room :
@@ -37,22 +43,22 @@ room :
     s .args .self .cost .0 + s .args .due .0 + c .before .in-service .result .0 + c .in-service2 .result .0 < 2 ^ 64
 room c =
     let s = c .before .before .before .before .before .before in
-    walk-room (s .args .kept) (s .args .self) (s .pre .1 .0) _ _ _ (s .pre .1 .1) (c .before .in-service .ensures)
+    walk-room (s .args .kept) (s .args .self) (s .pre .1 .0) _ _ _ (s .pre .1 .1) (s .pre .0 .1 .number) (c .before .in-service .ensures)
     (c .in-service2 .ensures) (s .pre .0 .0) (omega arith)
 
-add-t10 : tie.Need-add-t10
-add-t10 c = omega (arith, room (c .before .before))
+add-sum : tie.Need-add-sum
+add-sum c = omega (arith, room (c .before .before))
 
-add-t11 : tie.Need-add-t11
-add-t11 c = omega (arith, room (c .before .before .before))
+add-sum-2 : tie.Need-add-sum-2
+add-sum-2 c = omega (arith, room (c .before .before .before))
 
-add-t12 : tie.Need-add-t12
-add-t12 c = omega (arith, room (c .before .before .before .before))
+add-sum-3 : tie.Need-add-sum-3
+add-sum-3 c = omega (arith, room (c .before .before .before .before))
 
-add-t14 : tie.Need-add-t14
-add-t14 c = search needs
+add-years : tie.Need-add-years
+add-years c = search needs
 
 pub year-spec : {M : Type 1} → statement M
 year-spec =
     tie.close
-    (tie.spec in-service-requires in-service-requires-2 add-t10 add-t11 add-t12 add-t14 returns)
+    (tie.spec in-service-requires in-service-requires-2 add-sum add-sum-2 add-sum-3 add-years returns)

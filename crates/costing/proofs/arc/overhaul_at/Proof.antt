@@ -16,7 +16,7 @@ returns : tie.Need-returns
 returns c =
     let a = c .before .before .args in
     let taken = c .before .if1 .taken in
-    c .paid-once .ensures ∙ overhaul-falls (a .discount) (a .amount) (a .grow) (a .from) (a .age) (a .n) (omega arith)
+    c .paid-once .ensures ∙ overhaul-falls (a .discount .by) (a .amount) (a .grow) (a .from) (a .age) (a .n) (omega arith)
 
 returns-2 : tie.Need-returns-2
 returns-2 c = overhaul-waits _ _ _ _ _ _ (c .if1 .left)

@@ -1,0 +1,2 @@
+-- The laws of division.
+pub mod GuessLaws

@@ -1,0 +1,2 @@
+-- The definitions of division.
+pub mod Division

@@ -1,0 +1,67 @@
+-- All streams of an option, one after the other: each is left by those behind it. Assumes nothing.
+use native.Mathlib.Omega.{arith}
+use Rattle.streams.specs.Streams.{part}
+use Rattle.streams.proofs.FillLaws.{left-through, stream-stays}
+use borrow.Author.Needs.{needs}
+use Rattle.streams.proofs.fill.Statement.{statement}
+use Rattle.streams.proofs.fill.Tie as tie
+
+returns : tie.Need-returns
+returns c =
+    let s = c .before .before .before .before .before .before .before .before .before .before .before .before .before .before .before .before .before .before .before .before in
+    let d = s .args .discount .by in
+    let t = s .args .terms in
+    let last = s .args .last in
+    let first = c .before .before .before .before .before .before .before .before .before .before .before .before .before .before .stream in
+    let second = c .before .before .before .before .before .before .before .before .before .before .stream2 in
+    let third = c .before .before .before .before .before .before .stream3 in
+    let all = c .before .before .overhauls in
+    let a = first .last .0 in
+    let b = second .last .0 in
+    let e = all .last .0 in
+    let later = left-through b (third .last .0) e (part 2) (part 3) (omega arith) (third .ensures .left) (all .ensures .left) in
+    let latest = left-through a b e (part 1) (part 2) (omega arith) (second .ensures .left) later in
+    record {
+      room = omega (arith, first .kept .0, second .kept .0, third .kept .0, all .kept .0);
+      investment = stream-stays (part 0) (part 1) d (t .investment .amount) (t .investment .grow) last a e (omega arith) latest (first .ensures .stream);
+      maintenance = stream-stays (part 1) (part 2) d (t .maintenance .amount) (t .maintenance .grow) last b e (omega arith) later (second .ensures .stream);
+      electricity =
+          stream-stays (part 2) (part 3) d (t .electricity .amount) (t .electricity .grow) last (third .last .0) e (omega arith)
+          (all .ensures .left) (third .ensures .stream);
+      overhauls = all .ensures .streams;
+    }
+
+stream-requires : tie.Need-stream-requires
+stream-requires c κs = search needs
+
+stream-requires-2 : tie.Need-stream-requires-2
+stream-requires-2 c κs = search needs
+
+mul-stream : tie.Need-mul-stream
+mul-stream c = search needs
+
+stream-requires-3 : tie.Need-stream-requires-3
+stream-requires-3 c κs = search needs
+
+overhauls-requires : tie.Need-overhauls-requires
+overhauls-requires c κs =
+    let s = c .before .before .before .before .before .before .before .before .before .before .before .before .before .before .before .before .before in
+    let first = c .before .before .before .before .before .before .before .before .before .before .before .stream in
+    let second = c .before .before .before .before .before .before .before .stream2 in
+    let third = c .before .before .before .stream3 in
+    (s .pre .0, (s .pre .1 .0 .overhauls, (s .pre .1 .1 .0, omega (arith, first .kept .0, second .kept .0, third .kept .0))))
+
+same-length : tie.Need-same-length
+same-length c = search needs
+
+pub fill-spec : {M : Type 1} → statement M
+fill-spec =
+    tie.close
+    (tie.spec
+    stream-requires
+    stream-requires-2
+    mul-stream
+    stream-requires-3
+    overhauls-requires
+    same-length
+    returns)

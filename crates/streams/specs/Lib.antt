@@ -1,0 +1,2 @@
+-- The definitions of streams.
+pub mod Streams

@@ -1,0 +1,51 @@
+-- Streams: the values of an option's amounts in the years 0 to `last`, in one list of eleven parts of 301 years each. Part 0 is the
+-- investment, part 1 maintenance, part 2 electricity, and part 3 + j the j-th overhaul, from 0. Definitions only.
+use Prim.Native.Nat.{ℕ, _+_, _*_, _≤_, _<_}
+use mathlib.Core.Path.{_≡_}
+use mathlib.Core.List.{List}
+use lib.ListN.{getD, length}
+use Rattle.sheet.specs.declared.Overhauls.{Overhauls}
+use Rattle.sheet.specs.declared.Terms.{Terms}
+use Rattle.costing.specs.Payment.{rounded}
+use Rattle.costing.specs.Arc.{once, ageOf}
+use Rattle.costing.specs.declared.Kept.{Kept}
+
+-- from place `at` on, the value of an amount paid once in year 0, 1, .., last
+abbrev pub Stream : (at discount amount grow last : ℕ) (s : List ℕ) → Type 0
+Stream at discount amount grow last s = (y : ℕ) → y ≤ last → getD s (at + y) 0 ≡ rounded discount (once amount grow y)
+
+-- the places before `at` are as they were
+abbrev pub Left : (at : ℕ) (old new : List ℕ) → Type 0
+Left at old new = (k : ℕ) → k < at → getD new k 0 ≡ getD old k 0
+
+-- what filling one stream gives
+pub record Filled (at discount amount grow last : ℕ) (old new : List ℕ) : Type 0 where
+  pub stream : Stream at discount amount grow last new
+  pub left : Left at old new
+
+-- where a part begins
+abbrev pub part : ℕ → ℕ
+part k = k * 301
+
+-- the streams of the first n overhauls
+abbrev pub OverhaulStreams : (discount : ℕ) → Overhauls → (n last : ℕ) → List ℕ → Type 0
+OverhaulStreams discount o n last s = (j : ℕ) → j < n → Stream (part (3 + j)) discount (getD (o .amounts) j 0) (o .grow) last s
+
+-- what filling the streams of all overhauls gives
+pub record OverhaulsFilled (discount : ℕ) (o : Overhauls) (last : ℕ) (old new : List ℕ) : Type 0 where
+  pub streams : OverhaulStreams discount o (o .count) last new
+  pub left : Left (part 3) old new
+
+-- all streams of an option
+pub record Streams (discount : ℕ) (t : Terms) (last : ℕ) (s : List ℕ) : Type 0 where
+  pub room : 3311 ≤ length s
+  pub investment : Stream (part 0) discount (t .investment .amount) (t .investment .grow) last s
+  pub maintenance : Stream (part 1) discount (t .maintenance .amount) (t .maintenance .grow) last s
+  pub electricity : Stream (part 2) discount (t .electricity .amount) (t .electricity .grow) last s
+  pub overhauls : OverhaulStreams discount (t .overhauls) (t .overhauls .count) last s
+
+-- in year n of an arc, from 0: the overhauls before `next` have been paid, the others have not
+pub record Falls (a : Kept) (n next : ℕ) : Type 0 where
+  pub within : next ≤ a .terms .overhauls .count
+  pub behind : (j : ℕ) → j < next → ageOf a j < n
+  pub ahead : (j : ℕ) → next ≤ j → j < a .terms .overhauls .count → n ≤ ageOf a j

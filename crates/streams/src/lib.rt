@@ -1,0 +1,85 @@
+// The value of each amount of an option in every year, stepped once; and an arc that is opened from these values and takes its overhauls
+// from them. Nothing here is a public call: the crates above meet what is required.
+
+ghost use mathlib.Core.Path.{_≡_};
+ghost use Prim.Native.Nat.{_+_, _<_, _≤_};
+ghost use lib.ListN.{length};
+ghost use Rattle.division.specs.Division.{Ready};
+ghost use Rattle.checking.specs.Fit.{TermsFit};
+ghost use Rattle.costing.specs.Arc.{worth};
+ghost use Rattle.costing.specs.Fit.{KeptFits};
+ghost use Rattle.costing.specs.Walk.{overhaulsAt, walkAt};
+ghost use Rattle.streams.specs.Streams.{Streams, Falls};
+use costing::Kept;
+use costing::Units;
+use costing::Walk;
+use division::Divisor;
+use sheet::Terms;
+
+mod filling;
+
+// One stream has the years 0 to 300; an option has eleven: investment, maintenance, electricity and eight overhauls.
+pub const YEARS: usize = 301;
+
+pub const PLACES: usize = 11 * YEARS;
+
+// What the overhauls of a year cost, and which overhaul falls next.
+pub struct Fallen {
+    pub units: Units,
+    pub next: usize,
+}
+
+// Writes all streams of an option, for the years 0 to last.
+pub fn fill(streams: &mut [u64], terms: Terms, discount: Divisor, last: u64)
+    requires { ⌜ Ready discount × (1_000_000 ≤ discount .by) × (discount .by ≤ 1_200_000) ⌝ }
+    requires { ⌜ TermsFit (discount .by) terms ⌝ }
+    requires { ⌜ (last ≤ 300) × (3311 ≤ length (now streams)) ⌝ }
+    ensures { λ _. ⌜ Streams (discount .by) terms last (now (streams .exit)) ⌝ }
+{
+    let i = terms.investment;
+    let m = terms.maintenance;
+    let e = terms.electricity;
+    filling::stream(streams, 0, i.amount, i.grow, discount, last);
+    filling::stream(streams, YEARS, m.amount, m.grow, discount, last);
+    filling::stream(streams, 2 * YEARS, e.amount, e.grow, discount, last);
+    filling::overhauls(streams, terms.overhauls, discount, last);
+}
+
+// The arc before its first year.
+pub fn open(streams: &[u64], kept: Kept, last: u64) -> Walk
+    requires { ⌜ Streams (kept .discount) (kept .terms) last (now streams) × (kept .from ≤ last) × (last ≤ 300) ⌝ }
+    ensures { λ r. ⌜ r ≡ walkAt kept 0 ⌝ }
+{
+    let from = kept.from as usize;
+    Walk {
+        cost: Units(streams[from]),
+        maintenance: Units(streams[YEARS + from]),
+        electricity: Units(streams[2 * YEARS + from]),
+        years: 0,
+    }
+}
+
+// What the overhauls of age n cost, if `next` is the first of that age or more; `ages` are the option's.
+pub fn due(streams: &[u64], ages: &[u64; 8], kept: Kept, last: u64, next: usize, n: u64) -> Fallen
+    requires { ⌜ KeptFits kept × (now ages ≡ kept .terms .overhauls .ages) × Falls kept n next ⌝ }
+    requires { ⌜ Streams (kept .discount) (kept .terms) last (now streams) × (kept .from + n < last) × (last ≤ 300) ⌝ }
+    ensures units { λ r. ⌜ r .units .0 ≡ worth kept (overhaulsAt kept n) ⌝ }
+    ensures next { λ r. ⌜ Falls kept (n + 1) (r .next) ⌝ }
+{
+    let terms = kept.terms;
+    let overhauls = terms.overhauls;
+    let count = overhauls.count as usize;
+    if next < count {
+        if ages[next] == n {
+            let place = (3 + next) * YEARS + (kept.from + n) as usize;
+            return Fallen {
+                units: Units(streams[place]),
+                next: next + 1,
+            };
+        }
+    }
+    Fallen {
+        units: Units(0),
+        next: next,
+    }
+}

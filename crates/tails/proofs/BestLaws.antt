@@ -1,0 +1,57 @@
+-- The running choice on numbers: one end more (`best-next`), ends that are not offered (`best-past`), and what it shows of the choice of
+-- entries (`best-shown`). Assumes nothing.
+use Prim.Native.Nat.{ℕ, zero, suc, _+_, _≤_, _<_}
+use mathlib.Core.Path.{_≡_, refl, _∙_}
+use mathlib.Core.Bool.{Bool, true, false, cond}
+use mathlib.Core.List.{_∷_}
+use native.Mathlib.Omega.{arith}
+use native.Mathlib.Nat.{add-zero, add-suc}
+use native.Mathlib.Numerals.{add-one}
+use lib.Dec.{leb, eqb}
+use Rattle.choice.specs.Running.{Entry, noTotal, weigh, over}
+use Rattle.tails.specs.Best.{shown, weighed, bestOver}
+use Rattle.tails.specs.declared.Best.{Best}
+
+module _ (offered : ℕ → Bool) (cost behind : ℕ → ℕ) (s : ℕ) (best : Best) where
+  pub best-zero : best ≡ bestOver offered cost behind s best 0
+  unfolding bestOver
+  best-zero = refl
+
+  pub best-next :
+      (k e : ℕ) {flag : Bool} {so-far : Best} {c v : ℕ} → so-far ≡ bestOver offered cost behind s best k → e ≡ s + k → flag ≡ offered e
+      → c ≡ cost e → v ≡ behind e → cond flag (weighed so-far c e v) so-far ≡ bestOver offered cost behind s best (k + 1)
+  unfolding bestOver
+  best-next k e before at on paid word = rw (add-one k, before, on, paid, word, at)
+
+  -- d ends more, none of which is offered
+  pub best-past :
+      (k d : ℕ) → ((e : ℕ) → s + k ≤ e → e < s + (k + d) → offered e ≡ false)
+      → bestOver offered cost behind s best (k + d) ≡ bestOver offered cost behind s best k
+  unfolding bestOver
+  best-past k zero never = rw (add-zero k)
+  best-past k (suc d) never =
+      rw (add-suc k d, never (s + (k + d)) (omega arith) (omega arith)) (best-past k d (λ e l m. never e l (omega arith)))
+
+shown-cond : (b : Bool) (x y : Entry) → cond b (shown x) (shown y) ≡ shown (cond b x y)
+shown-cond true x y = refl
+shown-cond false x y = refl
+
+weigh-shown : (best : Entry) (cost e : ℕ) (behind : Entry) → weighed (shown best) cost e (behind .total) ≡ shown (weigh best cost e behind)
+unfolding weighed weigh
+weigh-shown best cost e behind =
+    let taken : Entry = record { total = cost + behind .total; ends = e ∷ behind .ends } in
+    rw (shown-cond (leb (cost + behind .total) (best .total)) taken best)
+    (shown-cond (eqb (behind .total) noTotal) best (cond (leb (cost + behind .total) (best .total)) taken best))
+
+-- by the totals of the entries behind the ends
+pub best-shown :
+    (offered : ℕ → Bool) (cost words : ℕ → ℕ) (behind : ℕ → Entry) (s : ℕ) (best : Entry) (k : ℕ)
+    → ((e : ℕ) → s ≤ e → e < s + k → words e ≡ behind e .total)
+    → bestOver offered cost words s (shown best) k ≡ shown (over offered cost behind s best k)
+unfolding bestOver over
+best-shown offered cost words behind s best zero h = refl
+best-shown offered cost words behind s best (suc k) h =
+    let e = s + k in
+    let so-far = over offered cost behind s best k in
+    rw (best-shown offered cost words behind s best k (λ e l m. h e l (omega arith)), h e (omega arith) (omega arith))
+    (rw (weigh-shown so-far (cost e) e (behind e)) (shown-cond (offered e) (weigh so-far (cost e) e (behind e)) so-far))

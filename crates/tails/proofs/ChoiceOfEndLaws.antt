@@ -1,0 +1,94 @@
+-- The choice of an end on the terms of an option is the one that the rules give: which ends are offered (`end-offered`), what the arcs cost
+-- (`end-cost`), and for replacements the table's entry (`tail-best`). Assumes nothing.
+use Prim.Native.Nat.{ℕ, suc, _+_, _-_, _≤_, _<_}
+use mathlib.Core.Path.{_≡_, refl, ap, sym, _∙_}
+use mathlib.Core.Bool.{Bool, true, false, _&&_, _||_}
+use mathlib.Core.List.{List}
+use mathlib.Core.Logic.{inl}
+use native.Mathlib.Omega.{arith}
+use native.Mathlib.Numerals.{add-one}
+use lib.Dec.{leb}
+use borrow.Author.Tests.{le-leb, ne-eqb}
+use Rattle.sheet.specs.Sheet.{PlanningSheet}
+use Rattle.sheet.specs.Parsed.{termsOf, parsed}
+use Rattle.checking.specs.Fit.{Fit}
+use Rattle.costing.specs.Arc.{arcOf, paid, worth}
+use Rattle.costing.specs.Offered.{placed, lengthOffered, offered}
+use Rattle.costing.specs.declared.Kept.{Kept}
+use Rattle.checking.proofs.TestLaws.{by-test}
+use Rattle.costing.proofs.OfferedLaws.{placed-iff, offered-in, offered-iff}
+use Rattle.chain.proofs.FeasibleLaws.{replace-forward}
+use Rattle.costing.proofs.SheetArcLaws.{cost-paid}
+use Rattle.chain.specs.Chain.{replace}
+use Rattle.choice.specs.Running.{noEntry, over}
+use Rattle.choice.proofs.RunningLaws.{over-same, over-start}
+use Rattle.tails.specs.Tail.{costTo, bestEnd, tail}
+use Rattle.tails.specs.Best.{shown, bestOver, mayEnd, keptCost, wordOf, WordsFit}
+use Rattle.tails.proofs.TailLaws.{tail-step, tail-le}
+use Rattle.tails.proofs.BestLaws.{best-shown}
+
+or-false : (b : Bool) → b || false ≡ b
+or-false true = refl
+or-false false = refl
+
+-- a length of a year or more lies between the two lives
+length-some :
+    (shortest longest option n : ℕ) → 1 ≤ n → lengthOffered shortest longest option n ≡ leb shortest n && leb n longest
+length-some shortest longest option n some =
+    rw (le-leb 1 n some, ne-eqb n 0 (λ e. omega arith)) (or-false (leb shortest n && leb n longest))
+
+module _ (p : PlanningSheet) (option y : ℕ) (a : Kept) (read : (e : ℕ) → a ≡ arcOf p option y e .kept) where
+  from-read : a .from ≡ y
+  unfolding arcOf
+  from-read = ap (λ (k : Kept). k .from) (read y)
+
+  shortest-read : a .terms .shortest ≡ p .option option .shortest
+  unfolding arcOf termsOf
+  shortest-read = ap (λ (k : Kept). k .terms .shortest) (read y)
+
+  longest-read : a .terms .longest ≡ p .option option .longest
+  unfolding arcOf termsOf
+  longest-read = ap (λ (k : Kept). k .terms .longest) (read y)
+
+  pub end-cost : (e : ℕ) → keptCost a e ≡ costTo p option y e
+  end-cost e = ap (λ (n : ℕ). worth a (paid a (e - n))) from-read ∙ cost-paid p option y e a (read e)
+
+  pub end-offered : (e : ℕ) → placed (p .horizon) option y e ≡ true → y < e → mayEnd a e ≡ offered p option y e
+  end-offered e well late =
+      rw (from-read, shortest-read, longest-read)
+      (sym
+      (offered-in p option y e well ∙ length-some (p .option option .shortest) (p .option option .longest) option (e - y) (omega arith)))
+
+-- a replacement within the horizon is well placed
+replace-placed : (T y e : ℕ) → y < e → e ≤ T → placed T replace y e ≡ true
+replace-placed T y e late inside = placed-iff T replace y e .1 (((omega arith, inside), omega arith), inl (omega arith))
+
+-- no replacement ends in the year in which it starts
+not-at-once : (p : PlanningSheet) (y : ℕ) → offered p replace y y ≡ false
+not-at-once p y =
+    by-test (offered p replace y y)
+    (λ t. let late = replace-forward p y y (offered-iff p replace y y .0 t) in absurd (omega arith)) (λ t. t)
+
+module _ (p : PlanningSheet) (y : ℕ) (a : Kept) (read : (e : ℕ) → a ≡ arcOf p replace y e .kept) (words : ℕ → ℕ) where
+  pub tail-best :
+      y < p .horizon → ((e : ℕ) → y < e → e ≤ p .horizon → words e ≡ tail p e .total)
+      → bestOver (mayEnd a) (keptCost a) words (y + 1) (shown noEntry) (p .horizon - y) ≡ shown (tail p y)
+  unfolding bestEnd
+  tail-best early held =
+      let n = p .horizon - y in
+      best-shown (mayEnd a) (keptCost a) words (tail p) (y + 1) noEntry n (λ e l m. held e (omega arith) (omega arith))
+      ∙ ap shown
+      (over-same (mayEnd a) (offered p replace y) (keptCost a) (costTo p replace y) (tail p) (tail p) (y + 1) noEntry n
+      (λ e l m. end-offered p replace y a read e (replace-placed (p .horizon) y e (omega arith) (omega arith)) (omega arith))
+      (λ e l m on. end-cost p replace y a read e) (λ e l m on. refl)
+      ∙ rw (add-one y) (sym (over-start (offered p replace y) (costTo p replace y) (tail p) y noEntry n (not-at-once p y)))
+      ∙ sym (tail-step p y early))
+
+-- words that have the totals of the table leave room
+pub words-fit :
+    (p : PlanningSheet) → Fit (parsed p) → (T y : ℕ) (words : List ℕ) → T ≡ p .horizon
+    → ((e : ℕ) → y < e → e ≤ T → wordOf words e ≡ tail p e .total) → WordsFit T y words
+words-fit p fit T y words same held e late inside some =
+    let word = held e late inside in
+    let most = tail-le p fit e (omega arith) (λ q. some (word ∙ q)) in
+    rw (word, same) most

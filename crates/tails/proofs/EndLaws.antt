@@ -1,0 +1,72 @@
+-- The ends of an option that is kept: on its terms, as the code weighs them. Assumes nothing.
+use Prim.Native.Nat.{ℕ, suc, _+_, _-_, _*_, _≤_, _<_, min}
+use mathlib.Core.Path.{_≡_, refl, ap, sym, subst, _∙_}
+use mathlib.Core.List.{[]}
+use mathlib.Core.Bool.{Bool, true, false, _&&_}
+use native.Mathlib.Omega.{arith}
+use lib.Dec.{leb}
+use borrow.Author.Tests.{le-leb, lt-leb}
+use Rattle.sheet.specs.declared.Terms.{Terms}
+use Rattle.costing.specs.Arc.{paid, worth}
+use Rattle.costing.specs.Fit.{KeptFits, yearly}
+use Rattle.costing.specs.Walk.{walkAt}
+use Rattle.costing.specs.declared.Kept.{Kept}
+use Rattle.costing.specs.declared.Walk.{Walk}
+use Rattle.costing.proofs.SizeLaws.{paid-le}
+use Rattle.costing.proofs.WalkLaws.{walk-paid}
+use Rattle.tails.specs.Best.{bestOver, mayEnd, keptCost, WordsFit, wordOf}
+use Rattle.tails.specs.declared.Best.{Best}
+use Rattle.tails.proofs.BestLaws.{best-past}
+
+-- what the code's array of options would give past its end
+abbrev pub noTerms : Terms
+noTerms =
+    record {
+      shortest = 0;
+      longest = 0;
+      investment = record { amount = 0; grow = 0; age = 0 };
+      maintenance = record { amount = 0; grow = 0; age = 0 };
+      electricity = record { amount = 0; grow = 0; age = 0 };
+      overhauls = record { grow = 0; count = 0; ages = []; amounts = [] };
+    }
+
+and-true : (b : Bool) → b ≡ b && true
+and-true true = refl
+and-true false = refl
+
+and-false : (b : Bool) → b && false ≡ false
+and-false true = refl
+and-false false = refl
+
+module _ (a : Kept) where
+  -- after n + 1 years, not more than the longest life, only the shortest is asked
+  pub end-test : (n : ℕ) → n < a .terms .longest → leb (a .terms .shortest) (n + 1) ≡ mayEnd a (a .from + (n + 1))
+  end-test n l =
+      let years : a .from + (n + 1) - a .from ≡ n + 1 = omega arith in
+      rw (years, le-leb (n + 1) (a .terms .longest) (omega arith)) (and-true (leb (a .terms .shortest) (n + 1)))
+
+  -- a walk of n + 1 years has paid the arc to that end
+  pub end-paid : (w : Walk) (n : ℕ) → w ≡ walkAt a (n + 1) → w .cost .0 ≡ keptCost a (a .from + (n + 1))
+  end-paid w n stands =
+      let years : n + 1 ≡ a .from + (n + 1) - a .from = omega arith in
+      walk-paid a w (n + 1) stands (omega arith) ∙ ap (λ (n : ℕ). worth a (paid a n)) years
+
+  -- an end later than the longest life is not offered
+  end-past : (e : ℕ) → a .terms .longest < e - a .from → mayEnd a e ≡ false
+  end-past e l = rw (lt-leb (e - a .from) (a .terms .longest) l) (and-false (leb (a .terms .shortest) (e - a .from)))
+
+  -- with the ends up to the longest life or the horizon, all are weighed
+  pub ends-all :
+      (words : ℕ → ℕ) (best : Best) (T n : ℕ) → n ≡ min (a .terms .longest) (T - a .from) → a .from ≤ T
+      → bestOver (mayEnd a) (keptCost a) words (a .from + 1) best n
+      ≡ bestOver (mayEnd a) (keptCost a) words (a .from + 1) best (T - a .from)
+  ends-all words best T n top early =
+      let all : n + (T - a .from - n) ≡ T - a .from = omega arith in
+      sym (best-past (mayEnd a) (keptCost a) words (a .from + 1) best n (T - a .from - n) (λ e l m. end-past e (omega arith)))
+      ∙ ap (bestOver (mayEnd a) (keptCost a) words (a .from + 1) best) all
+
+  -- the cost of an arc and a word behind it leave room
+  pub end-room : KeptFits a → (T e : ℕ) (words : ℕ → ℕ) → T ≤ 300 → a .from < e → e ≤ T → words e ≤ (T - e) * yearly → keptCost a e + words e ≤ (T - a .from) * yearly
+  end-room h T e words short late inside fits =
+      let paid = paid-le a h (e - a .from) (omega arith) in
+      omega arith

@@ -1,0 +1,121 @@
+-- The table holds what document 01 asks. Its entry of T is empty (`tail-last`), that of an earlier year the best end by the later entries
+-- (`tail-step`). An entry has the chosen list of replacements from its year to T (`tail-holds`), and a total that is at most what the years
+-- left can cost (`tail-le`): total and first end are the cheapest (`tail-cheapest`). Assumes nothing.
+use Prim.Native.Nat.{ℕ, suc, _+_, _-_, _*_, _≤_, _<_}
+use mathlib.Core.Path.{_≡_, refl, ap}
+use mathlib.Core.List.{List, [], _∷_}
+use mathlib.Core.Bool.{true}
+use mathlib.Core.Logic.{_↔_, inr}
+use native.Mathlib.Omega.{arith}
+use Rattle.sheet.specs.Sheet.{PlanningSheet}
+use Rattle.sheet.specs.Parsed.{parsed}
+use Rattle.sheet.proofs.ParsedLaws.{horizon-read}
+use Rattle.checking.specs.Fit.{Fit}
+use Rattle.costing.specs.Lists.{total}
+use Rattle.costing.specs.Fit.{yearly}
+use Rattle.costing.specs.Offered.{offered}
+use Rattle.costing.proofs.OfferedLaws.{offered-iff}
+use Rattle.costing.proofs.SheetArcLaws.{cost-le}
+use Rattle.chain.specs.Chain.{replace, replacements, last, Reaches, arcsOf}
+use Rattle.chain.proofs.FeasibleLaws.{replace-forward}
+use Rattle.choice.specs.Choice.{NotWorse}
+use Rattle.choice.specs.Running.{Entry, noTotal, noEntry, Holds, some, Then, thenWeight}
+use Rattle.choice.specs.Table.{nothingLeft}
+use Rattle.choice.proofs.HoldsLaws.{holds-none, holds-noEntry, holds-chosen, holds-least, holds-same}
+use Rattle.choice.proofs.RunningLaws.{over-same}
+use Rattle.choice.proofs.LeastLaws.{over-holds}
+use Rattle.choice.proofs.TableLaws.{entry-last, entry-step, every-year}
+use Rattle.tails.specs.Tail.{costTo, bestEnd, tail}
+use Rattle.tails.specs.Words.{firstOf}
+use Rattle.tails.specs.Cheapest.{replaced, Cheapest}
+
+module _ (p : PlanningSheet) where
+  -- an offered replacement ends after the year in which it starts, and not after T
+  offered-later : (y e : ℕ) → offered p replace y e ≡ true → (y < e) × (e ≤ p .horizon)
+  offered-later y e on = let o = offered-iff p replace y e .0 on in (replace-forward p y e o, o .inside)
+
+  -- so the best end is by the entries of later years alone
+  later-only :
+      (g g′ : ℕ → Entry) (y : ℕ) → y < p .horizon → ((e : ℕ) → y < e → e ≤ p .horizon → g e ≡ g′ e)
+      → bestEnd p replace g y ≡ bestEnd p replace g′ y
+  unfolding bestEnd
+  later-only g g′ y h same =
+      over-same (offered p replace y) (offered p replace y) (costTo p replace y) (costTo p replace y) g g′ y noEntry (suc (p .horizon - y))
+      (λ e l u. refl) (λ e l u on. refl) (λ e l u on. let o = offered-later y e on in same e (o .0) (o .1))
+
+  pub tail-last : tail p (p .horizon) ≡ nothingLeft
+  unfolding tail
+  tail-last = entry-last (p .horizon) (bestEnd p replace)
+
+  pub tail-step : (y : ℕ) → y < p .horizon → tail p y ≡ bestEnd p replace (tail p) y
+  unfolding tail
+  tail-step = entry-step (p .horizon) (bestEnd p replace) later-only
+
+  -- from a year before T, the lists that reach T begin with an offered end and reach T from there
+  reaches-then : (y : ℕ) → y < p .horizon → (ks : List ℕ) → Then (offered p replace y) (Reaches p) ks ↔ Reaches p y ks
+  unfolding replacements last
+  reaches-then y h [] = (λ m. absurd m, λ m. absurd (omega (arith, m .arrived)))
+  reaches-then y h (k ∷ ks) =
+      let iff = offered-iff p replace y k in (
+        λ m. record { offered = (iff .0 (m .0), m .1 .offered); arrived = m .1 .arrived },
+        λ m. (iff .1 (m .offered .0), record { offered = m .offered .1; arrived = m .arrived }),
+      )
+
+  replaced-then :
+      (y : ℕ) (ks : List ℕ) → Then (offered p replace y) (Reaches p) ks → thenWeight (costTo p replace y) (replaced p) ks ≡ replaced p y ks
+  unfolding total arcsOf replacements
+  replaced-then y [] m = refl
+  replaced-then y (k ∷ ks) m = refl
+
+  -- the most that the years from y to T can cost
+  abbrev room : ℕ → ℕ
+  room y = (p .horizon - y) * yearly
+
+  abbrev HoldsAt : ℕ → Entry → Type 0
+  HoldsAt y t = Holds (Reaches p y) (replaced p y) (room y) t
+
+  -- from T only the empty list reaches T
+  holds-last : HoldsAt (p .horizon) nothingLeft
+  unfolding total arcsOf replacements last
+  holds-last = some (record { member = record { offered = tt; arrived = refl }; least = least }) refl (omega arith)
+    where
+      least : (ks : List ℕ) → Reaches p (p .horizon) ks → NotWorse (replaced p (p .horizon)) [] ks
+      least [] m = inr (refl, tt)
+      least (k ∷ ks) m = let o = m .offered .0 in absurd (omega (arith, replace-forward p (p .horizon) k o, o .inside))
+
+  module _ (fit : Fit (parsed p)) where
+    room-lt : (y : ℕ) → room y < noTotal
+    room-lt y = omega (arith, fit .horizonHigh, horizon-read (parsed p) p refl)
+
+    room-fits : (y e : ℕ) → offered p replace y e ≡ true → costTo p replace y e + room e ≤ room y
+    room-fits y e on =
+        let o = offered-later y e on in
+        let most = cost-le p replace y e fit (omega arith) (omega arith) (o .1) in
+        omega arith
+
+    holds-step :
+        (y : ℕ) → y < p .horizon → ((e : ℕ) → y < e → e ≤ p .horizon → HoldsAt e (tail p e)) → HoldsAt y (bestEnd p replace (tail p) y)
+    unfolding bestEnd
+    holds-step y h later =
+        holds-same (Then (offered p replace y) (Reaches p)) (Reaches p y) (thenWeight (costTo p replace y) (replaced p)) (replaced p y)
+        (reaches-then y h) (replaced-then y) (room y) _
+        (over-holds (offered p replace y) (costTo p replace y) (tail p) (Reaches p) (replaced p) room (room y) (room-lt y)
+        (λ e on. let o = offered-later y e on in later e (o .0) (o .1)) (room-fits y) y (suc (p .horizon - y))
+        (λ e on. let o = offered-later y e on in (omega arith, omega arith)))
+
+    pub tail-holds : (y : ℕ) → y ≤ p .horizon → Holds (Reaches p y) (replaced p y) ((p .horizon - y) * yearly) (tail p y)
+    unfolding tail
+    tail-holds = every-year (p .horizon) (bestEnd p replace) later-only HoldsAt holds-last holds-step
+
+    pub tail-le : (y : ℕ) → y ≤ p .horizon → (tail p y .total ≡ noTotal → ⊥) → tail p y .total ≤ (p .horizon - y) * yearly
+    tail-le y l there = holds-chosen _ _ _ _ (tail-holds y l) there .2
+
+    pub tail-cheapest : (y : ℕ) → y ≤ p .horizon → Cheapest p y (tail p y .total) (firstOf (tail p y .ends))
+    tail-cheapest y l =
+        let holds = tail-holds y l in
+        record {
+          none = holds-none _ _ _ _ holds (room-lt y);
+          noEnd = λ q. ap (λ (t : Entry). firstOf (t .ends)) (holds-noEntry _ _ _ _ holds (room-lt y) q);
+          chosen = λ there. let c = holds-chosen _ _ _ _ holds there in (tail p y .ends, (c .0, c .1, refl));
+          least = holds-least _ _ _ _ holds (room-lt y);
+        }

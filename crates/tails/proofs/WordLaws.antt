@@ -1,0 +1,150 @@
+-- The lent words can be written from T down: first those of T (`words-last`), then those of each year before (`words-step`), until all are
+-- written (`words-all`). Those of a written year are its total and first end (`words-read`), the others are as they were (`words-others`):
+-- so the words after planning are those that document 01 asks (`words-cheapest`). Assumes nothing.
+use Prim.Native.Nat.{ℕ, zero, suc, _+_, _-_, _≤_, _<_}
+use mathlib.Core.Path.{_≡_, refl, sym, ap, _∙_}
+use mathlib.Core.List.{List, [], _∷_, map}
+use mathlib.Core.Logic.{_⊎_, ⊎-elim}
+use native.Mathlib.Nat.{add-zero, add-suc, sub-zero, sub-self}
+use native.Mathlib.Omega.{arith}
+use lib.ListN.{length, getD, set, drop, length-set}
+use lib.Seq.{sets, set-comm, getD-set-same, getD-set-other, length-sets, getD-drop, drop-drop}
+use Rattle.sheet.specs.Sheet.{PlanningSheet}
+use Rattle.sheet.specs.Parsed.{parsed}
+use Rattle.sheet.proofs.ParsedLaws.{horizon-read}
+use Rattle.checking.specs.Fit.{Fit}
+use Rattle.chain.specs.Chain.{replace}
+use Rattle.choice.specs.Running.{Entry, noEntry}
+use Rattle.choice.specs.Table.{table, entry}
+use Rattle.choice.proofs.TableLaws.{table-last, table-length, table-cons}
+use Rattle.tails.specs.Tail.{bestEnd, tail}
+use Rattle.tails.specs.Words.{totalOf, firstEnd, tails, tailWords}
+use Rattle.tails.specs.Cheapest.{CheapestWords}
+use Rattle.tails.proofs.TailLaws.{tail-cheapest}
+
+-- a store before a run of stores at later places, and so the first store of a run, can be made last
+sets-set : (vs l : List ℕ) (i j v : ℕ) → i < j → sets (set l i v) j vs ≡ set (sets l j vs) i v
+sets-set [] l i j v h = refl
+sets-set (x ∷ vs) l i j v h = rw (set-comm l i j v x (λ q. omega arith)) (sets-set vs (set l j x) i (suc j) v (omega arith))
+
+sets-cons : (vs l : List ℕ) (i v : ℕ) → sets l i (v ∷ vs) ≡ set (sets l (suc i) vs) i v
+sets-cons vs l i v = sets-set vs l i (suc i) v (omega arith)
+
+module _ (f : Entry → ℕ) where
+  -- a run of stores changes no word outside of it
+  sets-other : (ts : List Entry) (l : List ℕ) (i k : ℕ) → (i ≤ k → i + length ts ≤ k) → getD (sets l i (map f ts)) k 0 ≡ getD l k 0
+  sets-other [] l i k out = refl
+  sets-other (t ∷ ts) l i k out =
+      sets-other ts (set l i (f t)) (suc i) k (λ h. omega (arith, out (omega arith)))
+      ∙ getD-set-other l i k (f t) 0 (λ q. omega (arith, out (omega arith)))
+
+  -- and puts f of the j-th entry at its j-th word
+  sets-same :
+      (ts : List Entry) (l : List ℕ) (i k j : ℕ) → k ≡ i + j → j < length ts → i + length ts ≤ length l
+      → getD (sets l i (map f ts)) k 0 ≡ f (getD ts j noEntry)
+  sets-same [] l i k j q h room = absurd (omega arith)
+  sets-same (t ∷ ts) l i k zero q h room =
+      sets-other ts (set l i (f t)) (suc i) k (λ h. omega arith) ∙ rw (q, add-zero i) (getD-set-same l i (f t) 0 (omega arith))
+  sets-same (t ∷ ts) l i k (suc j) q h room =
+      sets-same ts (set l i (f t)) (suc i) k j (omega arith) (omega arith) (omega (arith, length-set l i (f t)))
+
+-- the words when the entries of the years from y on are written
+abbrev written : (words : List ℕ) (y : ℕ) → List Entry → List ℕ
+written words y ts = sets (sets words y (map totalOf ts)) (301 + y) (map firstEnd ts)
+
+-- those of the last n years and T
+unfoldable pub wordsFrom : PlanningSheet → ℕ → List ℕ → List ℕ
+wordsFrom p n words = written words (p .horizon - n) (table (p .horizon) (bestEnd p replace) n)
+
+written-cons :
+    (words : List ℕ) (y : ℕ) (t : Entry) (ts : List Entry)
+    → written words y (t ∷ ts) ≡ set (set (written words (y + 1) ts) y (t .total)) (301 + y) (firstEnd t)
+written-cons words y t ts =
+    let e : y + 1 ≡ suc y = omega arith in
+    let totals = sets words (suc y) (map totalOf ts) in
+    rw (
+      sets-cons (map firstEnd ts) (sets words y (map totalOf (t ∷ ts))) (301 + y) (firstEnd t),
+      sets-cons (map totalOf ts) words y (t .total),
+      e,
+      add-suc 301 y,
+      sets-set (map firstEnd ts) totals y (suc (301 + y)) (t .total) (omega arith),
+    )
+
+module _ (p : PlanningSheet) where
+  -- the table of the years from y on
+  abbrev from : ℕ → List Entry
+  from y = table (p .horizon) (bestEnd p replace) (p .horizon - y)
+
+  from-drop : (y : ℕ) → y ≤ p .horizon → from y ≡ drop y (tails p)
+  unfolding tails
+  from-drop zero h = rw (sub-zero (p .horizon))
+  from-drop (suc y) h =
+      let e : suc y ≡ y + 1 = omega arith in
+      rw e (ap (drop 1) (sym (table-cons (p .horizon) (bestEnd p replace) y h) ∙ from-drop y (omega arith)) ∙ drop-drop 1 y (tails p))
+
+  from-read : (y e j : ℕ) → e ≡ y + j → y ≤ p .horizon → getD (from y) j noEntry ≡ tail p e
+  unfolding tails tail entry
+  from-read y e j q h = rw (q, from-drop y h) (getD-drop y (tails p) j noEntry)
+
+  module _ (words : List ℕ) where
+    pub words-last : wordsFrom p 0 words ≡ set (set words (p .horizon) 0) (301 + p .horizon) 0
+    unfolding wordsFrom
+    words-last = rw (table-last, sub-zero (p .horizon))
+
+    words-written : (y : ℕ) → y ≤ p .horizon → wordsFrom p (p .horizon - y) words ≡ written words y (from y)
+    unfolding wordsFrom
+    words-written y h = let e : p .horizon - (p .horizon - y) ≡ y = omega arith in rw e
+
+    pub words-step :
+        (y : ℕ) → y < p .horizon
+        → wordsFrom p (p .horizon - y) words
+        ≡ set (set (wordsFrom p (p .horizon - (y + 1)) words) y (tail p y .total)) (301 + y) (firstEnd (tail p y))
+    unfolding tail
+    words-step y h =
+        rw (words-written y (omega arith), words-written (y + 1) (omega arith), table-cons (p .horizon) (bestEnd p replace) y h)
+        (written-cons words y (tail p y) (from (y + 1)))
+
+    pub words-all : wordsFrom p (p .horizon) words ≡ tailWords p words
+    unfolding wordsFrom tailWords tails
+    words-all = rw (sub-self (p .horizon))
+
+    pub words-length : (n : ℕ) → length (wordsFrom p n words) ≡ length words
+    unfolding wordsFrom
+    words-length n = rw (length-sets, length-sets)
+
+    pub words-read :
+        p .horizon ≤ 300 → 602 ≤ length words → (y e : ℕ) → y ≤ e → e ≤ p .horizon
+        → (getD (wordsFrom p (p .horizon - y) words) e 0 ≡ tail p e .total)
+        × (getD (wordsFrom p (p .horizon - y) words) (301 + e) 0 ≡ firstEnd (tail p e))
+    words-read far room y e l u =
+        let early : y ≤ p .horizon = omega arith in
+        let ts = from y in
+        let totals = sets words y (map totalOf ts) in
+        let many = table-length (p .horizon) (bestEnd p replace) (p .horizon - y) in
+        let long = length-sets words y (map totalOf ts) in
+        let read = from-read y e (e - y) (omega arith) early in
+        rw (words-written y early) (
+          sets-other firstEnd ts totals (301 + y) e (λ h. omega arith)
+              ∙ sets-same totalOf ts words y e (e - y) (omega arith) (omega arith) (omega arith) ∙ ap totalOf read,
+          sets-same firstEnd ts totals (301 + y) (301 + e) (e - y) (omega arith) (omega arith) (omega arith) ∙ ap firstEnd read,
+        )
+
+    pub words-others : (k : ℕ) → ((p .horizon < k) × (k < 301)) ⊎ (301 + p .horizon < k) → getD (tailWords p words) k 0 ≡ getD words k 0
+    unfolding tailWords tails
+    words-others k out =
+        let many = table-length (p .horizon) (bestEnd p replace) (p .horizon) in
+        sets-other firstEnd (tails p) (sets words 0 (map totalOf (tails p))) 301 k
+        (λ h. ⊎-elim (λ o. absurd (omega (arith, o .1))) (λ o. omega arith) out)
+        ∙ sets-other totalOf (tails p) words 0 k (λ h. ⊎-elim (λ o. omega (arith, o .0)) (λ o. omega arith) out)
+
+pub words-cheapest :
+    (p : PlanningSheet) → Fit (parsed p) → (words : List ℕ) → 602 ≤ length words → CheapestWords p words (tailWords p words)
+words-cheapest p fit words room =
+    let far : p .horizon ≤ 300 = omega (arith, fit .horizonHigh, horizon-read (parsed p) p refl) in
+    let all = ap (λ (n : ℕ). wordsFrom p n words) (sub-zero (p .horizon)) ∙ words-all p words in
+    let read = rw all at (words-read p words far room 0) in
+    record {
+      cheapest = λ y l. let r = read y (omega arith) l in rw (r .0, r .1) (tail-cheapest p fit y l);
+      others = words-others p words;
+      lengthKept = rw (← words-all p words) (words-length p words (p .horizon));
+    }

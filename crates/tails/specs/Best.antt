@@ -1,0 +1,54 @@
+-- The running choice on the numbers that the code keeps: a least total and the first end of the list that has it. `BestLaws.antt` shows that
+-- it follows the choice of entries. Definitions only.
+use Prim.Native.Nat.{ℕ, zero, suc, _+_, _-_, _*_, _≤_, _<_}
+use mathlib.Core.Path.{_≡_}
+use mathlib.Core.Bool.{Bool, cond, _&&_}
+use mathlib.Core.List.{List}
+use lib.Dec.{leb, eqb}
+use lib.ListN.{getD}
+use Rattle.sheet.specs.declared.Sheet.{Sheet}
+use Rattle.sheet.specs.declared.Terms.{Terms}
+use Rattle.costing.specs.Arc.{paid, worth}
+use Rattle.costing.specs.Fit.{yearly}
+use Rattle.costing.specs.declared.Kept.{Kept}
+use Rattle.chain.specs.Chain.{replace}
+use Rattle.streams.specs.Streams.{Streams}
+use Rattle.choice.specs.Running.{Entry, noTotal}
+use Rattle.tails.specs.Words.{firstOf}
+use Rattle.tails.specs.declared.Best.{Best}
+
+-- what the code keeps of an entry
+abbrev pub shown : Entry → Best
+shown t = record { total = t .total; end = firstOf (t .ends) }
+
+-- `weigh` and `over`, where `behind` has the totals
+unfoldable pub weighed : Best → (cost end behind : ℕ) → Best
+weighed best cost end behind =
+    cond (eqb behind noTotal) best (cond (leb (cost + behind) (best .total)) (record { total = cost + behind; end = end }) best)
+
+unfoldable pub bestOver : (offered : ℕ → Bool) (cost behind : ℕ → ℕ) (s : ℕ) (best : Best) (k : ℕ) → Best
+bestOver offered cost behind s best zero = best
+bestOver offered cost behind s best (suc k) =
+    let so-far = bestOver offered cost behind s best k in
+    cond (offered (s + k)) (weighed so-far (cost (s + k)) (s + k) (behind (s + k))) so-far
+
+-- whether an option that is kept may end in a year after its start, and what the arc costs
+abbrev pub mayEnd : Kept → ℕ → Bool
+mayEnd a e = leb (a .terms .shortest) (e - a .from) && leb (e - a .from) (a .terms .longest)
+
+abbrev pub keptCost : Kept → ℕ → ℕ
+keptCost a e = worth a (paid a (e - a .from))
+
+-- the word of a year
+abbrev pub wordOf : List ℕ → ℕ → ℕ
+wordOf words y = getD words y 0
+
+-- the words of the years after y leave room: where there is a total, it is at most 11 payments a year
+abbrev pub WordsFit : (T y : ℕ) → List ℕ → Type 0
+WordsFit T y words = (e : ℕ) → y < e → e ≤ T → (wordOf words e ≡ noTotal → ⊥) → wordOf words e ≤ (T - e) * yearly
+
+-- what is lent with a sheet: the streams of its option replace, and the ages of that option's overhauls
+abbrev pub Lent : Sheet → (streams ages : List ℕ) → Type 0
+Lent s streams ages =
+    (other : Terms)
+    → Streams (s .discount) (getD (s .options) replace other) (s .horizon) streams × (ages ≡ getD (s .options) replace other .overhauls .ages)

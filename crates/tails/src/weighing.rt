@@ -1,0 +1,78 @@
+// The choice of the end of an option, by the totals behind the ends.
+
+ghost use mathlib.Core.Path.{_≡_};
+ghost use Prim.Native.Nat.{_+_, _-_, _^_, _<_, _≤_, min};
+ghost use mathlib.Core.Bool.{cond};
+ghost use lib.ListN.{length};
+ghost use Rattle.costing.specs.Fit.{KeptFits, Divides};
+ghost use Rattle.choice.specs.Running.{noTotal};
+ghost use Rattle.streams.specs.Streams.{Streams};
+ghost use Rattle.tails.specs.Best.{weighed, bestOver, mayEnd, keptCost, wordOf, WordsFit};
+use crate::Best;
+use costing::Kept;
+use costing::Units;
+use division::Divisor;
+
+// No total: no list leads to the horizon.
+pub const NONE: u64 = 18_446_744_073_709_551_615;
+
+fn least(a: u64, b: u64) -> u64
+    ensures { λ r. ⌜ r ≡ min a b ⌝ }
+{
+    if a < b { a } else { b }
+}
+
+// The better of the choice so far and an arc to year end, if that is offered, with a total behind it: of equal totals the later end.
+fn weigh(offered: bool, best: Best, cost: Units, end: u64, behind: u64) -> Best
+    requires { ⌜ ((behind ≡ noTotal → ⊥) → cost .0 + behind < 2 ^ 64) ⌝ }
+    ensures { λ r. ⌜ r ≡ cond offered (weighed best (cost .0) end behind) best ⌝ }
+{
+    if !offered {
+        return best;
+    }
+    if behind == NONE {
+        return best;
+    }
+    let total = cost.0 + behind;
+    if total <= best.total {
+        return Best {
+            total: total,
+            end: end,
+        };
+    }
+    best
+}
+
+// The choice so far after the ends of an option kept from a year, up to the horizon. The arc is extended by a year from the last.
+pub fn best_end(
+    words: &[u64],
+    streams: &[u64],
+    ages: &[u64; 8],
+    kept: Kept,
+    discount: Divisor,
+    horizon: u64,
+    best: Best,
+) -> Best
+    requires { ⌜ KeptFits kept × Divides discount (kept .discount) × (now ages ≡ kept .terms .overhauls .ages) ⌝ }
+    requires { ⌜ Streams (kept .discount) (kept .terms) horizon (now streams) × (kept .from ≤ horizon) × (horizon ≤ 300) ⌝ }
+    requires { ⌜ (horizon < length (now words)) × WordsFit horizon (kept .from) (now words) ⌝ }
+    ensures { λ r. ⌜ r ≡ bestOver (mayEnd kept) (keptCost kept) (wordOf (now (words .entry))) (kept .from + 1) best (horizon - kept .from) ⌝ }
+{
+    let from = kept.from;
+    let terms = kept.terms;
+    let shortest = terms.shortest;
+    let top = least(terms.longest, horizon - from);
+    let mut chosen = best;
+    let mut walk = streams::open(streams, kept, horizon);
+    let mut next: usize = 0;
+    let mut n: u64 = 0;
+    while n < top {
+        let due = streams::due(streams, ages, kept, horizon, next, n);
+        walk = walk.year(kept, discount, due.units);
+        next = due.next;
+        n += 1;
+        let end = from + n;
+        chosen = weigh(shortest <= n, chosen, walk.cost, end, words[end as usize]);
+    }
+    chosen
+}
