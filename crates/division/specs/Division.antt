@@ -1,5 +1,5 @@
 -- What a divisor asks of its reciprocal. Definitions only.
-use Prim.Native.Nat.{ℕ, _+_, _*_, _^_, _≤_, _<_}
+use Prim.Native.Nat.{_+_, _*_, _^_, _≤_, _<_}
 use Rattle.division.specs.declared.Divisor.{Divisor}
 
 -- the reciprocal is not above 2^83 / by, so that no guess lies above the quotient; each of its halves has 32 bits

@@ -1,16 +1,15 @@
 -- Which overhaul falls in year n of an arc, and what it costs: ages rise, so that at most one does (`overhauls-one`, `overhauls-none`), and
 -- the index of the next one is kept (`falls-zero`, `falls-paid`, `falls-idle`). Assumes nothing.
-use Prim.Native.Nat.{ℕ, zero, suc, _+_, _≤_, _<_}
+use Prim.Native.Nat.{ℕ, zero, suc, _+_, _<_}
 use mathlib.Core.Path.{_≡_, sym, ap, _∙_}
 use mathlib.Core.List.{List}
-use mathlib.Core.Logic.{⊎-elim, _⊎_, inl, inr}
+use mathlib.Core.Logic.{⊎-elim, _⊎_}
 use native.Mathlib.Omega.{arith}
 use native.Mathlib.Nat.{eq-or-lt-of-le, not-suc-le-zero}
-use lib.Dec.{eqb, ltb}
+use lib.Dec.{ltb}
 use lib.ListN.{getD}
 use borrow.Author.Tests.{eq-eqb, ne-eqb, ltb-true, ltb-false}
 use Rattle.checking.proofs.TestLaws.{by-test}
-use Rattle.checking.specs.Fit.{OverhaulsFit}
 use Rattle.costing.specs.Lists.{total}
 use Rattle.costing.specs.Payment.{Payment, rounded}
 use Rattle.costing.specs.Arc.{once, ageOf, overhaul, forEach, worth}

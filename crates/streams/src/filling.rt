@@ -1,6 +1,5 @@
 // Filling streams. They are filled upward, so that it is enough to know that the places before one are left.
 
-ghost use mathlib.Core.Path.{_≡_};
 ghost use Prim.Native.Nat.{_+_, _*_, _<_, _≤_};
 ghost use lib.ListN.{length};
 ghost use Rattle.division.specs.Division.{Ready};

@@ -71,10 +71,13 @@ pub fn due(streams: &[u64], ages: &[u64; 8], kept: Kept, last: u64, next: usize,
     let count = overhauls.count as usize;
     if next < count {
         if ages[next] == n {
-            let place = (3 + next) * YEARS + (kept.from + n) as usize;
+            let year = kept.from + n;
+            let place = (3 + next) * YEARS + year as usize;
+            let value = streams[place];
+            let after = next + 1;
             return Fallen {
-                units: Units(streams[place]),
-                next: next + 1,
+                units: Units(value),
+                next: after,
             };
         }
     }

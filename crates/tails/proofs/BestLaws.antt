@@ -1,16 +1,31 @@
--- The running choice on numbers: one end more (`best-next`), ends that are not offered (`best-past`), and what it shows of the choice of
+-- The running choice on numbers: one end weighed in each of its cases (`weighed-none`, `weighed-take`, `weighed-keep`), one end more (`best-next`), ends that are not offered (`best-past`), and what it shows of the choice of
 -- entries (`best-shown`). Assumes nothing.
 use Prim.Native.Nat.{ℕ, zero, suc, _+_, _≤_, _<_}
-use mathlib.Core.Path.{_≡_, refl, _∙_}
+use mathlib.Core.Path.{_≡_, refl}
 use mathlib.Core.Bool.{Bool, true, false, cond}
 use mathlib.Core.List.{_∷_}
 use native.Mathlib.Omega.{arith}
 use native.Mathlib.Nat.{add-zero, add-suc}
 use native.Mathlib.Numerals.{add-one}
 use lib.Dec.{leb, eqb}
+use borrow.Author.Tests.{eq-eqb, ne-eqb, le-leb, lt-leb}
 use Rattle.choice.specs.Running.{Entry, noTotal, weigh, over}
 use Rattle.tails.specs.Best.{shown, weighed, bestOver}
 use Rattle.tails.specs.declared.Best.{Best}
+
+module _ (best : Best) (cost end behind : ℕ) where
+  pub weighed-none : behind ≡ noTotal → best ≡ weighed best cost end behind
+  unfolding weighed
+  weighed-none none = rw (eq-eqb behind noTotal none)
+
+  pub weighed-take :
+      (behind ≡ noTotal → ⊥) → cost + behind ≤ best .total → record { total = cost + behind; end = end } ≡ weighed best cost end behind
+  unfolding weighed
+  weighed-take some l = rw (ne-eqb behind noTotal some, le-leb (cost + behind) (best .total) l)
+
+  pub weighed-keep : (behind ≡ noTotal → ⊥) → best .total < cost + behind → best ≡ weighed best cost end behind
+  unfolding weighed
+  weighed-keep some l = rw (ne-eqb behind noTotal some, lt-leb (cost + behind) (best .total) l)
 
 module _ (offered : ℕ → Bool) (cost behind : ℕ → ℕ) (s : ℕ) (best : Best) where
   pub best-zero : best ≡ bestOver offered cost behind s best 0

@@ -17,4 +17,4 @@ use Rattle.tails.specs.Cases.{casesOfTails}
 
 pub tail-cases-hold : AllHold casesOfTails
 unfolding u16At u32At i32At expenseAt onceAt optionAt sheetOf factor flowOf overhaulsOf termsOf total divided plain inService repeated rounded arcOf once inYear investment maintenance electricity ageOf overhaul forEach when overhaulsBelow paid payments cost offered weigh over table bestEnd tails
-tail-cases-hold = (refl, (refl, (refl, (refl, tt))))
+tail-cases-hold = (refl, (refl, (refl, (refl, (refl, tt)))))

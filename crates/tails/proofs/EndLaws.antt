@@ -1,6 +1,7 @@
--- The ends of an option that is kept: on its terms, as the code weighs them. Assumes nothing.
-use Prim.Native.Nat.{ℕ, suc, _+_, _-_, _*_, _≤_, _<_, min}
-use mathlib.Core.Path.{_≡_, refl, ap, sym, subst, _∙_}
+-- The ends of an option that is kept, on its terms: which the code weighs (`end-test`, `ends-all`), what it has paid by then (`end-paid`), and
+-- that its sum with a word leaves room (`end-room`). Assumes nothing.
+use Prim.Native.Nat.{ℕ, _+_, _-_, _*_, _≤_, _<_, min}
+use mathlib.Core.Path.{_≡_, refl, ap, sym, _∙_}
 use mathlib.Core.List.{[]}
 use mathlib.Core.Bool.{Bool, true, false, _&&_}
 use native.Mathlib.Omega.{arith}
@@ -14,7 +15,7 @@ use Rattle.costing.specs.declared.Kept.{Kept}
 use Rattle.costing.specs.declared.Walk.{Walk}
 use Rattle.costing.proofs.SizeLaws.{paid-le}
 use Rattle.costing.proofs.WalkLaws.{walk-paid}
-use Rattle.tails.specs.Best.{bestOver, mayEnd, keptCost, WordsFit, wordOf}
+use Rattle.tails.specs.Best.{bestOver, mayEnd, keptCost}
 use Rattle.tails.specs.declared.Best.{Best}
 use Rattle.tails.proofs.BestLaws.{best-past}
 
@@ -40,10 +41,11 @@ and-false false = refl
 
 module _ (a : Kept) where
   -- after n + 1 years, not more than the longest life, only the shortest is asked
-  pub end-test : (n : ℕ) → n < a .terms .longest → leb (a .terms .shortest) (n + 1) ≡ mayEnd a (a .from + (n + 1))
-  end-test n l =
+  pub end-test :
+      (n : ℕ) {shortest : ℕ} → shortest ≡ a .terms .shortest → n < a .terms .longest → leb shortest (n + 1) ≡ mayEnd a (a .from + (n + 1))
+  end-test n e l =
       let years : a .from + (n + 1) - a .from ≡ n + 1 = omega arith in
-      rw (years, le-leb (n + 1) (a .terms .longest) (omega arith)) (and-true (leb (a .terms .shortest) (n + 1)))
+      rw (e, years, le-leb (n + 1) (a .terms .longest) (omega arith)) (and-true (leb (a .terms .shortest) (n + 1)))
 
   -- a walk of n + 1 years has paid the arc to that end
   pub end-paid : (w : Walk) (n : ℕ) → w ≡ walkAt a (n + 1) → w .cost .0 ≡ keptCost a (a .from + (n + 1))
@@ -66,7 +68,9 @@ module _ (a : Kept) where
       ∙ ap (bestOver (mayEnd a) (keptCost a) words (a .from + 1) best) all
 
   -- the cost of an arc and a word behind it leave room
-  pub end-room : KeptFits a → (T e : ℕ) (words : ℕ → ℕ) → T ≤ 300 → a .from < e → e ≤ T → words e ≤ (T - e) * yearly → keptCost a e + words e ≤ (T - a .from) * yearly
-  end-room h T e words short late inside fits =
+  pub end-room :
+      KeptFits a → (T e : ℕ) {word : ℕ} → T ≤ 300 → a .from < e → e ≤ T → word ≤ (T - e) * yearly
+      → keptCost a e + word ≤ (T - a .from) * yearly
+  end-room h T e short late inside fits =
       let paid = paid-le a h (e - a .from) (omega arith) in
       omega arith

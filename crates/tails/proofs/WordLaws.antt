@@ -1,6 +1,6 @@
--- The lent words can be written from T down: first those of T (`words-last`), then those of each year before (`words-step`), until all are
+-- The lent words can be written from T down: first those of T (`words-last`), then those of each year before (`words-next`), until all are
 -- written (`words-all`). Those of a written year are its total and first end (`words-read`), the others are as they were (`words-others`):
--- so the words after planning are those that document 01 asks (`words-cheapest`). Assumes nothing.
+-- so the words after planning are those that document 01 asks (`words-cheapest`, `words-cheapest-of-passes`). Assumes nothing.
 use Prim.Native.Nat.{ℕ, zero, suc, _+_, _-_, _≤_, _<_}
 use mathlib.Core.Path.{_≡_, refl, sym, ap, _∙_}
 use mathlib.Core.List.{List, [], _∷_, map}
@@ -9,10 +9,12 @@ use native.Mathlib.Nat.{add-zero, add-suc, sub-zero, sub-self}
 use native.Mathlib.Omega.{arith}
 use lib.ListN.{length, getD, set, drop, length-set}
 use lib.Seq.{sets, set-comm, getD-set-same, getD-set-other, length-sets, getD-drop, drop-drop}
-use Rattle.sheet.specs.Sheet.{PlanningSheet}
+use Rattle.sheet.specs.Sheet.{PlanningSheet, sheetOf}
 use Rattle.sheet.specs.Parsed.{parsed}
 use Rattle.sheet.proofs.ParsedLaws.{horizon-read}
+use Rattle.checking.specs.Passes.{Passes}
 use Rattle.checking.specs.Fit.{Fit}
+use Rattle.checking.proofs.FitLaws.{fit}
 use Rattle.chain.specs.Chain.{replace}
 use Rattle.choice.specs.Running.{Entry, noEntry}
 use Rattle.choice.specs.Table.{table, entry}
@@ -95,7 +97,7 @@ module _ (p : PlanningSheet) where
     unfolding wordsFrom
     words-written y h = let e : p .horizon - (p .horizon - y) ≡ y = omega arith in rw e
 
-    pub words-step :
+    words-step :
         (y : ℕ) → y < p .horizon
         → wordsFrom p (p .horizon - y) words
         ≡ set (set (wordsFrom p (p .horizon - (y + 1)) words) y (tail p y .total)) (301 + y) (firstEnd (tail p y))
@@ -103,6 +105,12 @@ module _ (p : PlanningSheet) where
     words-step y h =
         rw (words-written y (omega arith), words-written (y + 1) (omega arith), table-cons (p .horizon) (bestEnd p replace) y h)
         (written-cons words y (tail p y) (from (y + 1)))
+
+    -- two words written more
+    pub words-next :
+        (y : ℕ) → y < p .horizon → (l : List ℕ) {i j total end : ℕ} → l ≡ wordsFrom p (p .horizon - (y + 1)) words → i ≡ y → j ≡ 301 + y
+        → total ≡ tail p y .total → end ≡ firstEnd (tail p y) → set (set l i total) j end ≡ wordsFrom p (p .horizon - y) words
+    words-next y h l later first second total end = rw (later, first, second, total, end) (sym (words-step y h))
 
     pub words-all : wordsFrom p (p .horizon) words ≡ tailWords p words
     unfolding wordsFrom tailWords tails
@@ -148,3 +156,9 @@ words-cheapest p fit words room =
       others = words-others p words;
       lengthKept = rw (← words-all p words) (words-length p words (p .horizon));
     }
+
+-- for every sheet that passes the checks, and all lists of 602 words or more, whatever they held
+pub words-cheapest-of-passes :
+    (sheet : List ℕ) → Passes sheet → (words : List ℕ) → 602 ≤ length words
+    → CheapestWords (sheetOf sheet) words (tailWords (sheetOf sheet) words)
+words-cheapest-of-passes sheet h = words-cheapest (sheetOf sheet) (fit sheet h)

@@ -1,8 +1,8 @@
--- The words of document 01's sheets 9 to 12, worked out by hand from the rules. Definitions only.
+-- The words of document 01's sheets 9 to 12, and of the sheet of its cases 6 to 8, worked out by hand from the rules. Definitions only.
 use Prim.Native.Nat.{ℕ}
 use mathlib.Core.List.{List, [], _∷_, map}
 use Rattle.sheet.specs.Sheet.{sheetOf}
-use Rattle.costing.specs.Cases.{Case, noOverhaul, replaceSheet}
+use Rattle.costing.specs.Cases.{Case, noOverhaul, replaceSheet, arcSheet}
 use Rattle.chain.specs.Cases.{sheet11, sheet12}
 use Rattle.choice.specs.Running.{noTotal}
 use Rattle.tails.specs.Words.{totalOf, firstEnd, tails}
@@ -31,4 +31,6 @@ casesOfTails =
     ∷ words sheet10 (0 ∷ 0 ∷ noTotal ∷ 0 ∷ 0 ∷ noTotal ∷ noTotal ∷ 0 ∷ []) (4 ∷ 4 ∷ 0 ∷ 7 ∷ 7 ∷ 0 ∷ 0 ∷ 0 ∷ [])
     ∷ words sheet11 (30_000 ∷ 20_000 ∷ 10_000 ∷ 0 ∷ []) (2 ∷ 3 ∷ 3 ∷ 0 ∷ [])
     ∷ words sheet12 (240_000 ∷ 230_000 ∷ 120_000 ∷ 110_000 ∷ 0 ∷ []) (2 ∷ 3 ∷ 4 ∷ 4 ∷ 0 ∷ [])
+    -- with r 40,000 a later start costs less: from 1 it is case 6
+    ∷ words (arcSheet noOverhaul) (46_994 ∷ 27_749 ∷ 18_134 ∷ 0 ∷ []) (2 ∷ 3 ∷ 3 ∷ 0 ∷ [])
     ∷ []

@@ -33,7 +33,8 @@ fn weigh(offered: bool, best: Best, cost: Units, end: u64, behind: u64) -> Best
     if behind == NONE {
         return best;
     }
-    let total = cost.0 + behind;
+    let units = cost.0;
+    let total = units + behind;
     if total <= best.total {
         return Best {
             total: total,

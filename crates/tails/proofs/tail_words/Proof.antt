@@ -1,17 +1,14 @@
 -- The words of a sheet: the streams of its option replace are filled, and the words by them. Assumes nothing.
 use mathlib.Core.Path.{_≡_, refl, sym, subst, _∙_}
-use mathlib.Core.List.{List}
 use native.Mathlib.Omega.{arith}
 use lib.ListN.{getD}
 use denote.Ref.{now}
 use Prim.Native.Nat.{ℕ}
-use Rattle.sheet.specs.Parsed.{parsed}
 use Rattle.sheet.specs.declared.Terms.{Terms}
 use Rattle.sheet.proofs.ParsedLaws.{terms-read}
-use Rattle.checking.specs.Fit.{Fit, TermsFit}
+use Rattle.checking.specs.Fit.{Fit}
 use Rattle.chain.specs.Chain.{replace}
 use Rattle.streams.specs.Streams.{Streams}
-use Rattle.tails.specs.Best.{Lent}
 use Rattle.tails.specs.Cheapest.{CheapestWords}
 use Rattle.tails.proofs.WordLaws.{words-cheapest}
 use Rattle.tails.proofs.EndLaws.{noTerms}

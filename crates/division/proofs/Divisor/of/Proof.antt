@@ -1,4 +1,5 @@
 -- 2^83 over a number of 32 bits from 10^6 on, by two divisions. Assumes nothing.
+use Prim.Native.Nat.{_≤_}
 use mathlib.Core.Path.{refl}
 use native.Mathlib.Omega.{arith}
 use Rattle.division.proofs.GuessLaws.{high-le, high-lt, rest-lt, low-lt, inverse-under}
@@ -8,7 +9,7 @@ use Rattle.division.proofs.Divisor.of.Tie as tie
 
 returns : tie.Need-returns
 returns c =
-    let large = c .pre .0 in (
+    let large : 1_000_000 ≤ c .args .by = omega arith in (
       refl,
       record {
         positive = omega arith;
@@ -22,13 +23,13 @@ div-high : tie.Need-div-high
 div-high c = search needs
 
 mul-rest : tie.Need-mul-rest
-mul-rest c = omega (arith, high-le (c .args .by) (c .pre .0))
+mul-rest c = omega (arith, high-le (c .args .by) (omega arith))
 
 sub-rest : tie.Need-sub-rest
-sub-rest c = high-le (c .args .by) (c .pre .0)
+sub-rest c = high-le (c .args .by) (omega arith)
 
 mul-low : tie.Need-mul-low
-mul-low c = omega (arith, rest-lt (c .args .by) (c .pre .0))
+mul-low c = omega (arith, rest-lt (c .args .by) (omega arith))
 
 div-low : tie.Need-div-low
 div-low c = search needs

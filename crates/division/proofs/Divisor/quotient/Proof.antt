@@ -11,7 +11,7 @@ returns-2 : tie.Need-returns-2
 returns-2 c = let s = c .before in sym (quotient-off (s .args .self) (s .pre) (s .args .n))
 
 returns : tie.Need-returns
-returns c = let s = c .before in sym (nothing-left (s .args .self) (s .pre) (s .args .n) (c .if1 .taken))
+returns c = let s = c .before in sym (nothing-left (s .args .self) (s .pre) (s .args .n) (omega (arith, c .if1 .taken)))
 
 mul-product : tie.Need-mul-product
 mul-product c = omega (arith, product-le-of (c .args .n / 4_294_967_296) (c .args .self .high) (omega arith) (c .pre .high))

@@ -1,12 +1,10 @@
 -- The choice of an end: after n years the arc stands after n years, the next overhaul is known, and the ends up to n years after the start
 -- are weighed. Assumes nothing.
-use Prim.Native.Nat.{ℕ, _+_, _-_, _*_, _≤_, _<_}
-use mathlib.Core.Path.{_≡_, refl, ap, sym, _∙_}
+use Prim.Native.Nat.{ℕ, _+_, _-_, _≤_, _<_}
+use mathlib.Core.Path.{_≡_, ap, sym, _∙_}
 use native.Mathlib.Omega.{arith}
-use lib.ListN.{getD}
 use denote.Ref.{now}
 use Rattle.costing.specs.Arc.{worth}
-use Rattle.costing.specs.Fit.{yearly}
 use Rattle.costing.specs.Walk.{overhaulsAt, walkAt}
 use Rattle.costing.proofs.WalkLaws.{walk-years, walk-stands}
 use Rattle.streams.specs.Streams.{Falls}
@@ -14,7 +12,6 @@ use Rattle.streams.proofs.FallLaws.{falls-zero}
 use Rattle.tails.specs.Best.{bestOver, mayEnd, keptCost, wordOf}
 use Rattle.tails.proofs.BestLaws.{best-zero, best-next}
 use Rattle.tails.proofs.EndLaws.{end-test, end-paid, end-room, ends-all}
-use borrow.Author.Needs.{needs}
 use Rattle.tails.proofs.weighing.best_end.Statement.{statement}
 use Rattle.tails.proofs.weighing.best_end.Tie as tie
 
@@ -54,7 +51,8 @@ loop-again c =
       c .before .before .before .due .ensures .1,
       c .weigh .ensures
           ∙ best-next (mayEnd kept) (keptCost kept) (wordOf (now (s .args .words))) (kept .from + 1) (s .args .best) (loop .n) end (loop .inv .3)
-          (omega arith) (end-test kept (loop .n) (lives (c .before .before .before .before))) (end-paid kept _ (loop .n) walks) refl,
+          (omega arith) (end-test kept (loop .n) (omega arith) (lives (c .before .before .before .before))) (end-paid kept _ (loop .n) walks)
+          (ap (wordOf (now (s .args .words))) (omega arith)),
     )
 
 returns : tie.Need-returns Inv-loop μ-loop
@@ -113,7 +111,7 @@ weigh-requires c κs some =
     let years = walk-years kept (loop .walk) (loop .n) (loop .inv .1) in
     let walks = c .before .year .ensures ∙ ap (λ (n : ℕ). walkAt kept (n + 1)) years in
     let room =
-    end-room kept (s .pre .0 .0) (s .args .horizon) end (wordOf (now (s .args .words))) (short s) (omega arith) (inside d)
+    end-room kept (s .pre .0 .0) (s .args .horizon) end (short s) (omega arith) (inside d)
     (s .pre .1 .1 .1 end (omega arith) (inside d) some) in
     omega (arith, end-paid kept _ (loop .n) walks, room, short s)
 

@@ -1,25 +1,23 @@
 -- The words from T down: when year y has been reached, the words of the years from y on are written and no others. Assumes nothing.
-use Prim.Native.Nat.{ℕ, _+_, _-_, _≤_, _<_}
-use mathlib.Core.Path.{_≡_, refl, ap, sym, subst, _∙_}
+use Prim.Native.Nat.{ℕ, _+_, _-_, _≤_}
+use mathlib.Core.Path.{_≡_, ap, sym, subst, _∙_}
 use mathlib.Core.List.{List}
 use native.Mathlib.Omega.{arith}
-use lib.ListN.{getD, set, length, length-set}
+use lib.ListN.{set, length, length-set}
 use denote.Ref.{now}
 use Rattle.sheet.specs.Sheet.{PlanningSheet}
 use Rattle.sheet.specs.Parsed.{parsed}
 use Rattle.sheet.specs.declared.Sheet.{Sheet}
 use Rattle.sheet.proofs.ParsedLaws.{horizon-read}
 use Rattle.checking.specs.Fit.{Fit}
-use Rattle.costing.specs.declared.Kept.{Kept}
-use Rattle.costing.proofs.SheetArcLaws.{keptOf, keptOf-fits, kept-read}
+use Rattle.costing.proofs.SheetArcLaws.{keptOf-fits}
 use Rattle.chain.specs.Chain.{replace}
-use Rattle.choice.specs.Running.{noEntry}
 use Rattle.tails.specs.Tail.{tail}
-use Rattle.tails.specs.Best.{shown, bestOver, mayEnd, keptCost, wordOf}
+use Rattle.tails.specs.Best.{wordOf}
 use Rattle.tails.specs.declared.Best.{Best}
-use Rattle.tails.proofs.WordLaws.{wordsFrom, words-last, words-step, words-all, words-length, words-read}
+use Rattle.tails.proofs.WordLaws.{wordsFrom, words-last, words-next, words-all, words-length, words-read}
 use Rattle.tails.proofs.EndLaws.{noTerms}
-use Rattle.tails.proofs.ChoiceOfEndLaws.{tail-best, words-fit}
+use Rattle.tails.proofs.SheetEndLaws.{tail-best, words-fit}
 use borrow.Author.Needs.{needs}
 use Rattle.tails.proofs.words.fill.Statement.{statement}
 use Rattle.tails.proofs.words.fill.Tie as tie
@@ -66,20 +64,6 @@ held c p read e late inside =
     ap (λ (l : List ℕ). wordOf l e) (words-are c p read)
     ∙ words-read p (entry c) (omega (arith, T, short (start c))) (start c .pre .1 .1) (c .loop .y) e late (omega (arith, T)) .0
 
--- the choice of this year is the table's
-chosen :
-    (c : tie.After-best-end Inv-loop μ-loop) (p : PlanningSheet) → sheet (c .before .before .before) ≡ parsed p
-    → c .best-end .result ≡ shown (tail p (c .before .before .before .loop .y - 1))
-chosen c p read =
-    let a = c .before .before .before in
-    let y = a .loop .y - 1 in
-    let T = horizon-read (sheet a) p read in
-    let kept = keptOf (sheet a) noTerms replace y in
-    c .best-end .ensures
-    ∙ ap (λ (t : ℕ). bestOver (mayEnd kept) (keptCost kept) (wordOf (a .loop .words)) (y + 1) (shown noEntry) (t - y)) T
-    ∙ tail-best p y kept (λ e. kept-read p replace y e (sheet a) noTerms read (omega arith)) (wordOf (a .loop .words)) (omega (arith, T))
-    (λ e late inside. held a p read e (omega arith) (omega (arith, T)))
-
 loop-again : tie.Need-loop-again Inv-loop μ-loop
 loop-again c = (
   omega arith,
@@ -88,9 +72,11 @@ loop-again c = (
       let y = a .loop .y - 1 in
       let next : p .horizon - a .loop .y ≡ p .horizon - (y + 1) = omega arith in
       let later = a .loop .inv .1 p read ws q ∙ ap (λ (n : ℕ). wordsFrom p n ws) next in
-      let best = chosen c p read in
-      (λ i. set (set (later i) y (best i .total)) (301 + y) (best i .end))
-      ∙ sym (words-step p ws y (omega (arith, horizon-read (sheet a) p read))),
+      let best =
+      tail-best p (sheet a) noTerms read (wordOf (a .loop .words)) y _ (omega arith) (omega arith)
+      (λ e late inside. held a p read e (omega arith) inside) (c .best-end .ensures) in
+      words-next p ws y (omega (arith, horizon-read (sheet a) p read)) (a .loop .words) later (omega arith) (omega arith)
+      (ap (λ (b : Best). b .total) best) (ap (λ (b : Best). b .end) best),
 )
 
 returns : tie.Need-returns Inv-loop μ-loop

@@ -1,6 +1,6 @@
--- The choice of an end on the terms of an option is the one that the rules give: which ends are offered (`end-offered`), what the arcs cost
--- (`end-cost`), and for replacements the table's entry (`tail-best`). Assumes nothing.
-use Prim.Native.Nat.{ℕ, suc, _+_, _-_, _≤_, _<_}
+-- The choice of an end on the terms of an option is the one that the rules give: for any option and entries behind the ends (`ends-over`),
+-- and for replacements, where it is the table's (`tail-best`). Assumes nothing.
+use Prim.Native.Nat.{ℕ, _+_, _-_, _≤_, _<_}
 use mathlib.Core.Path.{_≡_, refl, ap, sym, _∙_}
 use mathlib.Core.Bool.{Bool, true, false, _&&_, _||_}
 use mathlib.Core.List.{List}
@@ -11,6 +11,9 @@ use lib.Dec.{leb}
 use borrow.Author.Tests.{le-leb, ne-eqb}
 use Rattle.sheet.specs.Sheet.{PlanningSheet}
 use Rattle.sheet.specs.Parsed.{termsOf, parsed}
+use Rattle.sheet.specs.declared.Sheet.{Sheet}
+use Rattle.sheet.specs.declared.Terms.{Terms}
+use Rattle.sheet.proofs.ParsedLaws.{horizon-read}
 use Rattle.checking.specs.Fit.{Fit}
 use Rattle.costing.specs.Arc.{arcOf, paid, worth}
 use Rattle.costing.specs.Offered.{placed, lengthOffered, offered}
@@ -18,12 +21,13 @@ use Rattle.costing.specs.declared.Kept.{Kept}
 use Rattle.checking.proofs.TestLaws.{by-test}
 use Rattle.costing.proofs.OfferedLaws.{placed-iff, offered-in, offered-iff}
 use Rattle.chain.proofs.FeasibleLaws.{replace-forward}
-use Rattle.costing.proofs.SheetArcLaws.{cost-paid}
+use Rattle.costing.proofs.SheetArcLaws.{keptOf, kept-read, cost-paid}
 use Rattle.chain.specs.Chain.{replace}
-use Rattle.choice.specs.Running.{noEntry, over}
+use Rattle.choice.specs.Running.{Entry, noEntry, over}
 use Rattle.choice.proofs.RunningLaws.{over-same, over-start}
 use Rattle.tails.specs.Tail.{costTo, bestEnd, tail}
 use Rattle.tails.specs.Best.{shown, bestOver, mayEnd, keptCost, wordOf, WordsFit}
+use Rattle.tails.specs.declared.Best.{Best}
 use Rattle.tails.proofs.TailLaws.{tail-step, tail-le}
 use Rattle.tails.proofs.BestLaws.{best-shown}
 
@@ -50,14 +54,27 @@ module _ (p : PlanningSheet) (option y : ℕ) (a : Kept) (read : (e : ℕ) → a
   unfolding arcOf termsOf
   longest-read = ap (λ (k : Kept). k .terms .longest) (read y)
 
-  pub end-cost : (e : ℕ) → keptCost a e ≡ costTo p option y e
+  end-cost : (e : ℕ) → keptCost a e ≡ costTo p option y e
   end-cost e = ap (λ (n : ℕ). worth a (paid a (e - n))) from-read ∙ cost-paid p option y e a (read e)
 
-  pub end-offered : (e : ℕ) → placed (p .horizon) option y e ≡ true → y < e → mayEnd a e ≡ offered p option y e
+  end-offered : (e : ℕ) → placed (p .horizon) option y e ≡ true → y < e → mayEnd a e ≡ offered p option y e
   end-offered e well late =
       rw (from-read, shortest-read, longest-read)
       (sym
       (offered-in p option y e well ∙ length-some (p .option option .shortest) (p .option option .longest) option (e - y) (omega arith)))
+
+  -- by words that have the totals of the entries behind the ends
+  ends-over :
+      (words : ℕ → ℕ) (behind : ℕ → Entry) (best : Entry) → ((e : ℕ) → y < e → e ≤ p .horizon → placed (p .horizon) option y e ≡ true)
+      → ((e : ℕ) → y < e → e ≤ p .horizon → words e ≡ behind e .total)
+      → bestOver (mayEnd a) (keptCost a) words (y + 1) (shown best) (p .horizon - y)
+      ≡ shown (over (offered p option y) (costTo p option y) behind (y + 1) best (p .horizon - y))
+  ends-over words behind best well held =
+      let n = p .horizon - y in
+      best-shown (mayEnd a) (keptCost a) words behind (y + 1) best n (λ e l m. held e (omega arith) (omega arith))
+      ∙ ap shown
+      (over-same (mayEnd a) (offered p option y) (keptCost a) (costTo p option y) behind behind (y + 1) best n
+      (λ e l m. end-offered e (well e (omega arith) (omega arith)) (omega arith)) (λ e l m on. end-cost e) (λ e l m on. refl))
 
 -- a replacement within the horizon is well placed
 replace-placed : (T y e : ℕ) → y < e → e ≤ T → placed T replace y e ≡ true
@@ -69,20 +86,33 @@ not-at-once p y =
     by-test (offered p replace y y)
     (λ t. let late = replace-forward p y y (offered-iff p replace y y .0 t) in absurd (omega arith)) (λ t. t)
 
-module _ (p : PlanningSheet) (y : ℕ) (a : Kept) (read : (e : ℕ) → a ≡ arcOf p replace y e .kept) (words : ℕ → ℕ) where
-  pub tail-best :
-      y < p .horizon → ((e : ℕ) → y < e → e ≤ p .horizon → words e ≡ tail p e .total)
-      → bestOver (mayEnd a) (keptCost a) words (y + 1) (shown noEntry) (p .horizon - y) ≡ shown (tail p y)
+-- the choice of a replacement from year y, by words that have the totals of the later years
+module _ (p : PlanningSheet) (s : Sheet) (other : Terms) (read : s ≡ parsed p) (words : ℕ → ℕ) where
+  tail-over :
+      (y : ℕ) → y < p .horizon → ((e : ℕ) → y < e → e ≤ p .horizon → words e ≡ tail p e .total)
+      → let a = keptOf s other replace y in
+      bestOver (mayEnd a) (keptCost a) words (y + 1) (shown noEntry) (p .horizon - y) ≡ shown (tail p y)
   unfolding bestEnd
-  tail-best early held =
-      let n = p .horizon - y in
-      best-shown (mayEnd a) (keptCost a) words (tail p) (y + 1) noEntry n (λ e l m. held e (omega arith) (omega arith))
+  tail-over y early held =
+      ends-over p replace y (keptOf s other replace y) (λ e. kept-read p replace y e s other read (omega arith)) words (tail p) noEntry
+      (λ e l m. replace-placed (p .horizon) y e l m) held
+      ∙ ap (λ (first : ℕ). shown (over (offered p replace y) (costTo p replace y) (tail p) first noEntry (p .horizon - y))) (add-one y)
       ∙ ap shown
-      (over-same (mayEnd a) (offered p replace y) (keptCost a) (costTo p replace y) (tail p) (tail p) (y + 1) noEntry n
-      (λ e l m. end-offered p replace y a read e (replace-placed (p .horizon) y e (omega arith) (omega arith)) (omega arith))
-      (λ e l m on. end-cost p replace y a read e) (λ e l m on. refl)
-      ∙ rw (add-one y) (sym (over-start (offered p replace y) (costTo p replace y) (tail p) y noEntry n (not-at-once p y)))
+      (sym (over-start (offered p replace y) (costTo p replace y) (tail p) y noEntry (p .horizon - y) (not-at-once p y))
       ∙ sym (tail-step p y early))
+
+  pub tail-best :
+      (y from : ℕ) {best : Best} → from ≡ y → y < s .horizon → ((e : ℕ) → y < e → e ≤ s .horizon → words e ≡ tail p e .total)
+      → let a = keptOf s other replace from in
+      best ≡ bestOver (mayEnd a) (keptCost a) words (from + 1) (shown noEntry) (s .horizon - from)
+      → best ≡ shown (tail p y)
+  tail-best y from same early held best =
+      let T = horizon-read s p read in
+      best
+      ∙ (λ i.
+      let a = keptOf s other replace (same i) in
+      bestOver (mayEnd a) (keptCost a) words (same i + 1) (shown noEntry) (T i - same i))
+      ∙ tail-over y (omega (arith, T)) (λ e l m. held e l (omega (arith, T)))
 
 -- words that have the totals of the table leave room
 pub words-fit :
