@@ -5,8 +5,8 @@ use mathlib.Core.Path.{_≡_}
 use mathlib.Core.List.{List, [], _∷_}
 use mathlib.Core.Logic.{_⊎_}
 
--- xs comes at or before ys in the order of choice: at the first place where they differ xs has the later year. (Where one ends first, it
--- comes first; of two chains that reach T none does.)
+-- xs comes at or before ys in the order of choice: at the first place where they differ xs has the later year. (A list that ends first comes
+-- first; of two lists that lead to T, neither goes on where the other ends.)
 abbrev pub Before : (xs ys : List ℕ) → Type 0
 Before [] ys = Unit {0}
 Before (x ∷ xs) [] = ⊥

@@ -7,9 +7,9 @@ use native.Mathlib.Nat.{mul-le-mul, mul-le-mul-left, le-of-mul-le-mul-left, div-
 use Rattle.division.specs.declared.Divisor.{Divisor}
 use Rattle.division.specs.Division.{Ready}
 
--- of two numbers of 32 bits
-pub product-le-of : (x y : ℕ) → x < 4_294_967_296 → y < 4_294_967_296 → x * y ≤ 4_294_967_295 * 4_294_967_295
-product-le-of x y h l =
+-- the product of two numbers of 32 bits
+pub small-product-le : (x y : ℕ) → x < 4_294_967_296 → y < 4_294_967_296 → x * y ≤ 4_294_967_295 * 4_294_967_295
+small-product-le x y h l =
     let h' : x ≤ 4_294_967_295 = omega arith in
     let l' : y ≤ 4_294_967_295 = omega arith in
     mul-le-mul h' l'
@@ -43,7 +43,7 @@ module _ (by : ℕ) (large : 1_000_000 ≤ by) where
   pub inverse-under : (highOf by * 4_294_967_296 + lowOf by) * by ≤ 2 ^ 83
   inverse-under = omega (arith, high-le, low-le)
 
--- x y h and l are halves of 32 bits of the dividend and of the reciprocal: the sum is below the upper half of their product
+-- x and y are the halves of a dividend, h and l those of a reciprocal: the sum is at most the upper half of the product of the two
 sum-le :
     (x y h l : ℕ)
     → (x * h + x * l / 4_294_967_296 + y * h / 4_294_967_296) * 2 ^ 64 ≤ (x * 4_294_967_296 + y) * (h * 4_294_967_296 + l)
@@ -67,9 +67,9 @@ module _ (d : Divisor) (h : Ready d) (n : ℕ) where
 
   pub product-fits : n < 2 ^ 64 → productOf d n < 2 ^ 64
   product-fits l =
-      let a = product-le-of (n / 4_294_967_296) (d .high) (omega arith) (h .high) in
-      let b = product-le-of (n / 4_294_967_296) (d .low) (omega arith) (h .low) in
-      let c = product-le-of (n % 4_294_967_296) (d .high) (omega arith) (h .high) in
+      let a = small-product-le (n / 4_294_967_296) (d .high) (omega arith) (h .high) in
+      let b = small-product-le (n / 4_294_967_296) (d .low) (omega arith) (h .low) in
+      let c = small-product-le (n % 4_294_967_296) (d .high) (omega arith) (h .high) in
       omega (arith, a, b, c)
 
   -- g 2^19 ≤ s and s 2^64 ≤ n i and i d ≤ 2^83, so g d 2^83 ≤ n i d ≤ n 2^83

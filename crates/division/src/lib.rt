@@ -5,6 +5,13 @@ ghost use mathlib.Core.Path.{_≡_};
 ghost use Prim.Native.Nat.{_/_, _<_, _≤_};
 ghost use Rattle.division.specs.Division.{Ready};
 
+// Powers of two: 32 + 51 and 64 + 19 are both 83.
+const TWO_19: u64 = 524_288;
+
+const TWO_32: u64 = 4_294_967_296;
+
+const TWO_51: u64 = 2_251_799_813_685_248;
+
 // A divisor, and 2^83 over it, as two halves of 32 bits.
 pub struct Divisor {
     pub by: u64,
@@ -19,9 +26,9 @@ impl Divisor {
         ensures number { λ r. ⌜ r .by ≡ by ⌝ }
         ensures ready { λ r. ⌜ Ready r ⌝ }
     {
-        let high = 2_251_799_813_685_248 / by;
-        let rest = 2_251_799_813_685_248 - high * by;
-        let low = rest * 4_294_967_296 / by;
+        let high = TWO_51 / by;
+        let rest = TWO_51 - high * by;
+        let low = rest * TWO_32 / by;
         Divisor {
             by: by,
             high: high,
@@ -37,10 +44,10 @@ impl Divisor {
         let by = self.by;
         let high = self.high;
         let low = self.low;
-        let above = n / 4_294_967_296;
-        let below = n % 4_294_967_296;
-        let product = above * high + above * low / 4_294_967_296 + below * high / 4_294_967_296;
-        let guess = product / 524_288;
+        let above = n / TWO_32;
+        let below = n % TWO_32;
+        let product = above * high + above * low / TWO_32 + below * high / TWO_32;
+        let guess = product / TWO_19;
         let rest = n - guess * by;
         if rest < by {
             return guess;

@@ -1,5 +1,5 @@
 -- Which overhaul falls in year n of an arc, and what it costs: ages rise, so that at most one does (`overhauls-one`, `overhauls-none`), and
--- the index of the next one is kept (`falls-zero`, `falls-paid`, `falls-idle`). Assumes nothing.
+-- the index of the next one is kept (`falls-zero`, `falls-one`, `falls-none`). Assumes nothing.
 use Prim.Native.Nat.{ℕ, zero, suc, _+_, _<_}
 use mathlib.Core.Path.{_≡_, sym, ap, _∙_}
 use mathlib.Core.List.{List}
@@ -33,7 +33,7 @@ forEach-one φ (suc n) i f l others =
     (eq-or-lt-of-le (omega arith))
 
 module _ (a : Kept) (h : KeptFits a) (n : ℕ) where
-  pub overhauls-none : ((j : ℕ) → j < a .terms .overhauls .count → ageOf a j ≡ n → ⊥) → 0 ≡ worth a (overhaulsAt a n)
+  overhauls-none : ((j : ℕ) → j < a .terms .overhauls .count → ageOf a j ≡ n → ⊥) → 0 ≡ worth a (overhaulsAt a n)
   unfolding overhaulsAt
   overhauls-none never =
       sym
@@ -49,7 +49,7 @@ module _ (a : Kept) (h : KeptFits a) (n : ℕ) where
       (λ t.
       ⊎-elim (λ (e : j ≡ i). differ e) (λ k. omega (arith, rising j i k l)) (eq-or-lt-of-le (ltb-false i j t)))
 
-  pub overhauls-one :
+  overhauls-one :
       (i : ℕ) → i < a .terms .overhauls .count → ageOf a i ≡ n → {v : ℕ}
       → v ≡ rounded (a .discount) (once (getD (a .terms .overhauls .amounts) i 0) (a .terms .overhauls .grow) (a .from + n))
       → v ≡ worth a (overhaulsAt a n)
@@ -65,33 +65,42 @@ module _ (a : Kept) (h : KeptFits a) (n : ℕ) where
 pub falls-zero : (a : Kept) → Falls a 0 0
 falls-zero a = record { within = omega arith; behind = λ j l. absurd (not-suc-le-zero l); ahead = λ j l m. omega arith }
 
-module _ (a : Kept) (n next : ℕ) (falls : Falls a n next) where
+module _ (a : Kept) (h : KeptFits a) (n next : ℕ) (falls : Falls a n next) where
   -- no overhaul falls where the next one does not
-  pub falls-never :
-      KeptFits a → (next < a .terms .overhauls .count → ageOf a next ≡ n → ⊥) → (j : ℕ) → j < a .terms .overhauls .count → ageOf a j ≡ n → ⊥
+  falls-never : (next < a .terms .overhauls .count → ageOf a next ≡ n → ⊥) → (j : ℕ) → j < a .terms .overhauls .count → ageOf a j ≡ n → ⊥
   unfolding ageOf
-  falls-never h waits j l e =
+  falls-never waits j l e =
       by-test (ltb j next) (λ t. omega (arith, falls .behind j (ltb-true j next t)))
       (λ t.
       ⊎-elim (λ (q : next ≡ j). waits (omega arith) (ap (λ (k : ℕ). getD (a .terms .overhauls .ages) k 0) q ∙ e))
       (λ k. omega (arith, h .terms .overhauls .rising next j k l, falls .ahead next (omega arith) (omega arith)))
       (eq-or-lt-of-le (ltb-false j next t)))
 
-  pub falls-idle : ((j : ℕ) → j < a .terms .overhauls .count → ageOf a j ≡ n → ⊥) → Falls a (n + 1) next
-  falls-idle never =
-      record {
-        within = falls .within;
-        behind = λ j l. omega (arith, falls .behind j l);
-        ahead = λ j l m. ⊎-elim (λ (e : n ≡ ageOf a j). absurd (never j m (sym e))) (λ k. omega arith) (eq-or-lt-of-le (falls .ahead j l m));
-      }
+  pub falls-none :
+      (next < a .terms .overhauls .count → ageOf a next ≡ n → ⊥) → (0 ≡ worth a (overhaulsAt a n)) × Falls a (n + 1) next
+  falls-none waits =
+      let never = falls-never waits in (
+        overhauls-none a h n never,
+        record {
+          within = falls .within;
+          behind = λ j l. omega (arith, falls .behind j l);
+          ahead = λ j l m.
+              ⊎-elim (λ (e : n ≡ ageOf a j). absurd (never j m (sym e))) (λ k. omega arith) (eq-or-lt-of-le (falls .ahead j l m));
+        },
+      )
 
-  pub falls-paid : KeptFits a → next < a .terms .overhauls .count → ageOf a next ≡ n → Falls a (n + 1) (next + 1)
+  pub falls-one :
+      next < a .terms .overhauls .count → ageOf a next ≡ n → {v : ℕ}
+      → v ≡ rounded (a .discount) (once (getD (a .terms .overhauls .amounts) next 0) (a .terms .overhauls .grow) (a .from + n))
+      → (v ≡ worth a (overhaulsAt a n)) × Falls a (n + 1) (next + 1)
   unfolding ageOf
-  falls-paid h l e =
-      record {
-        within = omega arith;
-        behind = λ j m.
-            ⊎-elim (λ (q : j ≡ next). omega (arith, ap (λ (k : ℕ). getD (a .terms .overhauls .ages) k 0) q))
-            (λ k. omega (arith, falls .behind j k)) (eq-or-lt-of-le (omega arith));
-        ahead = λ j k m. omega (arith, h .terms .overhauls .rising next j (omega arith) m);
-      }
+  falls-one l e value = (
+    overhauls-one a h n next l e value,
+    record {
+      within = omega arith;
+      behind = λ j m.
+          ⊎-elim (λ (q : j ≡ next). omega (arith, ap (λ (k : ℕ). getD (a .terms .overhauls .ages) k 0) q))
+          (λ k. omega (arith, falls .behind j k)) (eq-or-lt-of-le (omega arith));
+      ahead = λ j k m. omega (arith, h .terms .overhauls .rising next j (omega arith) m);
+    },
+  )

@@ -32,7 +32,7 @@ pub fn tail_words(words: &mut [u64], sheet: Sheet)
 {
     let discount = Divisor::of(sheet.discount);
     let terms = sheet.options[REPLACE];
-    let mut streams = [0u64; 3311];
+    let mut streams = [0u64; streams::PLACES];
     streams::fill(&mut streams, terms, discount, sheet.horizon);
     let overhauls = terms.overhauls;
     let ages = overhauls.ages;

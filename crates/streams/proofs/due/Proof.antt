@@ -6,7 +6,7 @@ use native.Mathlib.Omega.{arith}
 use lib.ListN.{getD}
 use Rattle.costing.specs.Payment.{rounded}
 use Rattle.costing.specs.Arc.{once, ageOf}
-use Rattle.streams.proofs.FallLaws.{overhauls-none, overhauls-one, falls-never, falls-idle, falls-paid}
+use Rattle.streams.proofs.FallLaws.{falls-none, falls-one}
 use borrow.Author.Needs.{needs}
 use Rattle.streams.proofs.due.Statement.{statement}
 use Rattle.streams.proofs.due.Tie as tie
@@ -19,12 +19,9 @@ returns c =
     let o = a .kept .terms .overhauls in
     let used = c .before .before .before .before .if1 .taken in
     let age = ap (λ (l : List ℕ). getD l (a .next) 0) (s .pre .0 .1) in
-    let falls = sym age ∙ c .before .before .if2 .taken in (
-      overhauls-one (a .kept) (s .pre .0 .0) (a .n) (a .next) used falls
-          (s .pre .1 .0 .overhauls (a .next) used _ (omega arith)
-          ∙ ap (λ (y : ℕ). rounded (a .kept .discount) (once (getD (o .amounts) (a .next) 0) (o .grow) y)) (omega arith)),
-      falls-paid (a .kept) (a .n) (a .next) (s .pre .0 .2) (s .pre .0 .0) used falls,
-    )
+    falls-one (a .kept) (s .pre .0 .0) (a .n) (a .next) (s .pre .0 .2) used (sym age ∙ c .before .before .if2 .taken)
+    (s .pre .1 .0 .overhauls (a .next) used _ (omega arith)
+    ∙ ap (λ (y : ℕ). rounded (a .kept .discount) (once (getD (o .amounts) (a .next) 0) (o .grow) y)) (omega arith))
 
 returns-2 : tie.Need-returns-2
 unfolding ageOf
@@ -32,15 +29,13 @@ returns-2 c =
     let s = c .before .before .before .before .before in
     let a = s .args in
     let age = ap (λ (l : List ℕ). getD l (a .next) 0) (s .pre .0 .1) in
-    let never = falls-never (a .kept) (a .n) (a .next) (s .pre .0 .2) (s .pre .0 .0) (λ used e. c .if2 .left (age ∙ e)) in
-    (overhauls-none (a .kept) (s .pre .0 .0) (a .n) never, falls-idle (a .kept) (a .n) (a .next) (s .pre .0 .2) never)
+    falls-none (a .kept) (s .pre .0 .0) (a .n) (a .next) (s .pre .0 .2) (λ used e. c .if2 .left (age ∙ e))
 
 returns-3 : tie.Need-returns-3
 returns-3 c =
     let s = c .before .before .before in
     let a = s .args in
-    let never = falls-never (a .kept) (a .n) (a .next) (s .pre .0 .2) (s .pre .0 .0) (λ used e. omega (arith, c .if1 .left)) in
-    (overhauls-none (a .kept) (s .pre .0 .0) (a .n) never, falls-idle (a .kept) (a .n) (a .next) (s .pre .0 .2) never)
+    falls-none (a .kept) (s .pre .0 .0) (a .n) (a .next) (s .pre .0 .2) (λ used e. omega (arith, c .if1 .left))
 
 mul-if2 : tie.Need-mul-if2
 mul-if2 c = search needs
