@@ -19,7 +19,7 @@ abbrev pub noEntry : Entry
 noEntry = record { total = noTotal; ends = [] }
 
 -- the choice so far, `best`, after an arc of that cost to year e with the entry `behind` it. Where there is none behind it, nothing changes;
--- else the sum is taken if it is no larger: of equal totals the later year stays.
+-- else the sum is taken if it is no larger: ends ascend, so of equal totals the later year is taken.
 unfoldable pub weigh : (best : Entry) (cost e : ℕ) (behind : Entry) → Entry
 weigh best cost e behind =
     cond (eqb (behind .total) noTotal) best

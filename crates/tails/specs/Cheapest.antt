@@ -24,7 +24,7 @@ pub record Cheapest (p : PlanningSheet) (y total end : ℕ) : Type 0 where
       → (ks : List ℕ) × (Chosen (Reaches p y) (replaced p y) ks × (replaced p y ks ≡ total) × (firstOf ks ≡ end))
   pub least : (ks : List ℕ) → Reaches p y ks → total ≤ replaced p y ks
 
--- the words after planning, and those before
+-- The words after planning, and those before: words y and 301 + y for y from 0 to T, and the other words, which keep their content.
 pub record CheapestWords (p : PlanningSheet) (before after : List ℕ) : Type 0 where
   pub cheapest : (y : ℕ) → y ≤ p .horizon → Cheapest p y (getD after y 0) (getD after (301 + y) 0)
   pub others : (k : ℕ) → ((p .horizon < k) × (k < 301)) ⊎ (301 + p .horizon < k) → getD after k 0 ≡ getD before k 0
