@@ -1,22 +1,17 @@
 -- The running choice over the years that are offered is the entry of the lists that begin with one of them (`over-holds`). Assumes nothing.
 use Prim.Native.Nat.{ℕ, zero, suc, _+_, _≤_, _<_}
-use mathlib.Core.Path.{_≡_, refl, sym, ap, _∙_}
-use mathlib.Core.Bool.{Bool, true, false, true≢false}
+use mathlib.Core.Path.{_≡_, refl, ap}
+use mathlib.Core.Bool.{Bool, true, Bool-discrete, not-eq-not}
 use mathlib.Core.List.{List, [], _∷_}
-use mathlib.Core.Logic.{_↔_, inl, inr, ⊎-elim}
-use native.Mathlib.Nat.{add-zero, add-suc, le-refl, le-of-suc-le-suc, eq-or-lt-of-le}
+use mathlib.Core.Logic.{_↔_, inl, inr, ⊎-elim, by-cases}
+use native.Mathlib.Nat.{add-zero, add-suc, le-refl, le-of-suc-le-suc, eq-or-lt-of-le, lt-of-not-le}
+use native.Mathlib.Decide.{decLe}
 use native.Mathlib.Omega.{arith}
-use lib.Dec.{leb}
-use borrow.Author.Tests.{leb-true, leb-false}
 use Rattle.choice.specs.Choice.{Before, NotWorse, Chosen}
 use Rattle.choice.specs.Running.{Entry, noTotal, noEntry, weigh, over, Holds, none, some, Then, thenWeight}
 use Rattle.choice.proofs.ChoiceLaws.{chosen-le}
 use Rattle.choice.proofs.HoldsLaws.{holds-chosen, holds-least, holds-same}
 use Rattle.choice.proofs.RunningLaws.{weigh-none, weigh-take, weigh-keep, over-zero, over-offered, over-passed}
-
-by-test : {P : Type 0} (test : Bool) → (test ≡ true → P) → (test ≡ false → P) → P
-by-test true f g = f refl
-by-test false f g = g refl
 
 module _ (offered : ℕ → Bool) (cost : ℕ → ℕ) (behind : ℕ → Entry) (Rest : ℕ → List ℕ → Type 0) (rest : ℕ → List ℕ → ℕ) (room : ℕ → ℕ)
     (bound : ℕ) where
@@ -90,9 +85,9 @@ module _ (offered : ℕ → Bool) (cost : ℕ → ℕ) (behind : ℕ → Entry) 
       below-weigh on (none q never) = rw (weigh-none best (cost e) e (behind e) (rw q)) (below-none (λ xs m. never xs (m .1)))
       below-weigh on (some c q r) =
           let there : behind e .total ≡ noTotal → ⊥ = λ n. omega (arith, fits e on) in
-          by-test (leb (cost e + behind e .total) (best .total))
-          (λ t. let l = leb-true _ _ t in rw (weigh-take best (cost e) e (behind e) there l) (below-take on c q r l))
-          (λ t. let l = leb-false _ _ t in rw (weigh-keep best (cost e) e (behind e) there l) (below-keep on c q r l))
+          by-cases (decLe (cost e + behind e .total) (best .total))
+          (λ l. rw (weigh-take best (cost e) e (behind e) there l) (below-take on c q r l))
+          (λ n. let l = lt-of-not-le n in rw (weigh-keep best (cost e) e (behind e) there l) (below-keep on c q r l))
 
     module _ (s k : ℕ) (inside : (e : ℕ) → offered e ≡ true → (s ≤ e) × (e < s + k)) where
       -- the choice after n ends is the entry of the lists below s + n
@@ -106,8 +101,9 @@ module _ (offered : ℕ → Bool) (cost : ℕ → ℕ) (behind : ℕ → Entry) 
           let e = s + n in
           let best = over offered cost behind s noEntry n in
           rw (add-suc s n)
-          (by-test (offered e) (λ on. rw (over-offered _ _ _ s _ n on) (below-weigh e best (below-over n) on (held e on)))
-          (λ off. rw (over-passed _ _ _ s _ n off) (below-none e best (below-over n) (λ xs m. true≢false (sym (m .0) ∙ off)))))
+          (by-cases (Bool-discrete (offered e) true)
+          (λ on. rw (over-offered _ _ _ s _ n on) (below-weigh e best (below-over n) on (held e on)))
+          (λ off. rw (over-passed _ _ _ s _ n (not-eq-not .0 off)) (below-none e best (below-over n) (λ xs m. off (m .0)))))
 
       pub over-holds : Holds (Then offered Rest) (thenWeight cost rest) bound (over offered cost behind s noEntry k)
       over-holds = holds-same (Below (s + k)) (Then offered Rest) _ _ same (λ xs m. refl) bound _ (below-over k)

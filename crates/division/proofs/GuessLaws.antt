@@ -8,74 +8,74 @@ use Rattle.division.specs.declared.Divisor.{Divisor}
 use Rattle.division.specs.Division.{Ready}
 
 -- the product of two numbers of 32 bits
-pub small-product-le : (x y : ℕ) → x < 4_294_967_296 → y < 4_294_967_296 → x * y ≤ 4_294_967_295 * 4_294_967_295
+pub small-product-le : (x y : ℕ) → x < 2 ^ 32 → y < 2 ^ 32 → x * y ≤ (2 ^ 32 - 1) * (2 ^ 32 - 1)
 small-product-le x y h l =
-    let h' : x ≤ 4_294_967_295 = omega arith in
-    let l' : y ≤ 4_294_967_295 = omega arith in
+    let h' : x ≤ 2 ^ 32 - 1 = omega arith in
+    let l' : y ≤ 2 ^ 32 - 1 = omega arith in
     mul-le-mul h' l'
 
 -- the reciprocal that is made in two divisions
 abbrev pub highOf : ℕ → ℕ
-highOf by = 2_251_799_813_685_248 / by
+highOf by = 2 ^ 51 / by
 
 abbrev pub restOf : ℕ → ℕ
-restOf by = 2_251_799_813_685_248 - highOf by * by
+restOf by = 2 ^ 51 - highOf by * by
 
 abbrev pub lowOf : ℕ → ℕ
-lowOf by = restOf by * 4_294_967_296 / by
+lowOf by = restOf by * 2 ^ 32 / by
 
 module _ (by : ℕ) (large : 1_000_000 ≤ by) where
-  pub high-le : highOf by * by ≤ 2_251_799_813_685_248
-  high-le = div-mul-le-self 2_251_799_813_685_248 by
+  pub high-le : highOf by * by ≤ 2 ^ 51
+  high-le = div-mul-le-self (2 ^ 51) by
 
-  pub high-lt : highOf by < 4_294_967_296
+  pub high-lt : highOf by < 2 ^ 32
   high-lt = omega (arith, high-le, mul-le-mul-left (highOf by) large)
 
   pub rest-lt : restOf by < by
-  rest-lt = omega (arith, lt-div-mul-add {a = 2_251_799_813_685_248} {b = by} (omega arith))
+  rest-lt = omega (arith, lt-div-mul-add {a = 2 ^ 51} {b = by} (omega arith))
 
-  low-le : lowOf by * by ≤ restOf by * 4_294_967_296
-  low-le = div-mul-le-self (restOf by * 4_294_967_296) by
+  low-le : lowOf by * by ≤ restOf by * 2 ^ 32
+  low-le = div-mul-le-self (restOf by * 2 ^ 32) by
 
-  pub low-lt : lowOf by < 4_294_967_296
+  pub low-lt : lowOf by < 2 ^ 32
   low-lt = div-lt-iff-lt-mul {k = by} (omega arith) .1 (omega (arith, rest-lt))
 
-  pub inverse-under : (highOf by * 4_294_967_296 + lowOf by) * by ≤ 2 ^ 83
+  pub inverse-under : (highOf by * 2 ^ 32 + lowOf by) * by ≤ 2 ^ 83
   inverse-under = omega (arith, high-le, low-le)
 
 -- x and y are the halves of a dividend, h and l those of a reciprocal: the sum is at most the upper half of the product of the two
 sum-le :
     (x y h l : ℕ)
-    → (x * h + x * l / 4_294_967_296 + y * h / 4_294_967_296) * 2 ^ 64 ≤ (x * 4_294_967_296 + y) * (h * 4_294_967_296 + l)
-sum-le x y h l = omega (arith, div-mul-le-self (x * l) 4_294_967_296, div-mul-le-self (y * h) 4_294_967_296)
+    → (x * h + x * l / 2 ^ 32 + y * h / 2 ^ 32) * 2 ^ 64 ≤ (x * 2 ^ 32 + y) * (h * 2 ^ 32 + l)
+sum-le x y h l = omega (arith, div-mul-le-self (x * l) (2 ^ 32), div-mul-le-self (y * h) (2 ^ 32))
 
 abbrev pub productOf : Divisor → ℕ → ℕ
 productOf d n =
-    n / 4_294_967_296 * d .high + n / 4_294_967_296 * d .low / 4_294_967_296 + n % 4_294_967_296 * d .high / 4_294_967_296
+    n / 2 ^ 32 * d .high + n / 2 ^ 32 * d .low / 2 ^ 32 + n % 2 ^ 32 * d .high / 2 ^ 32
 
 abbrev pub guessOf : Divisor → ℕ → ℕ
-guessOf d n = productOf d n / 524_288
+guessOf d n = productOf d n / 2 ^ 19
 
 module _ (d : Divisor) (h : Ready d) (n : ℕ) where
   abbrev inverse : ℕ
-  inverse = d .high * 4_294_967_296 + d .low
+  inverse = d .high * 2 ^ 32 + d .low
 
   product-le : productOf d n * 2 ^ 64 ≤ n * inverse
   product-le =
-      let e : n / 4_294_967_296 * 4_294_967_296 + n % 4_294_967_296 ≡ n = omega arith in
-      rw e at (sum-le (n / 4_294_967_296) (n % 4_294_967_296) (d .high) (d .low))
+      let e : n / 2 ^ 32 * 2 ^ 32 + n % 2 ^ 32 ≡ n = omega arith in
+      rw e at (sum-le (n / 2 ^ 32) (n % 2 ^ 32) (d .high) (d .low))
 
   pub product-fits : n < 2 ^ 64 → productOf d n < 2 ^ 64
   product-fits l =
-      let a = small-product-le (n / 4_294_967_296) (d .high) (omega arith) (h .high) in
-      let b = small-product-le (n / 4_294_967_296) (d .low) (omega arith) (h .low) in
-      let c = small-product-le (n % 4_294_967_296) (d .high) (omega arith) (h .high) in
+      let a = small-product-le (n / 2 ^ 32) (d .high) (omega arith) (h .high) in
+      let b = small-product-le (n / 2 ^ 32) (d .low) (omega arith) (h .low) in
+      let c = small-product-le (n % 2 ^ 32) (d .high) (omega arith) (h .high) in
       omega (arith, a, b, c)
 
   -- g 2^19 ≤ s and s 2^64 ≤ n i and i d ≤ 2^83, so g d 2^83 ≤ n i d ≤ n 2^83
   pub guess-le : guessOf d n * d .by ≤ n
   guess-le =
-      let g : guessOf d n * 2 ^ 83 ≤ n * inverse = omega (arith, product-le, div-mul-le-self (productOf d n) 524_288) in
+      let g : guessOf d n * 2 ^ 83 ≤ n * inverse = omega (arith, product-le, div-mul-le-self (productOf d n) (2 ^ 19)) in
       let g' : d .by * (guessOf d n * 2 ^ 83) ≤ d .by * (n * inverse) = mul-le-mul-left (d .by) g in
       let u' : n * (inverse * d .by) ≤ n * 2 ^ 83 = mul-le-mul-left n (h .under) in
       le-of-mul-le-mul-left {k = 2 ^ 83} (omega arith) (omega arith)

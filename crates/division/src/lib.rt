@@ -2,7 +2,7 @@
 // Nothing here is a public call: `Divisor` serves the crates above, which meet what it requires.
 
 ghost use mathlib.Core.Path.{_≡_};
-ghost use Prim.Native.Nat.{_/_, _<_, _≤_};
+ghost use Prim.Native.Nat.{_/_, _^_, _<_, _≤_};
 ghost use Rattle.division.specs.Division.{Ready};
 
 // Powers of two: 32 + 51 and 64 + 19 are both 83.
@@ -22,7 +22,7 @@ pub struct Divisor {
 impl Divisor {
     // The divisor of a number of 32 bits from 10^6 on: 2^83 over it then has at most 64 bits.
     pub fn of(by: u64) -> Divisor
-        requires { ⌜ (1_000_000 ≤ by) × (by < 4_294_967_296) ⌝ }
+        requires { ⌜ (1_000_000 ≤ by) × (by < 2 ^ 32) ⌝ }
         ensures number { λ r. ⌜ r .by ≡ by ⌝ }
         ensures ready { λ r. ⌜ Ready r ⌝ }
     {

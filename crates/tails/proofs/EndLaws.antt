@@ -3,7 +3,7 @@
 use Prim.Native.Nat.{ℕ, _+_, _-_, _*_, _≤_, _<_, min}
 use mathlib.Core.Path.{_≡_, refl, ap, sym, _∙_}
 use mathlib.Core.List.{[]}
-use mathlib.Core.Bool.{Bool, true, false, _&&_}
+use mathlib.Core.Bool.{false, and-true, and-false}
 use native.Mathlib.Omega.{arith}
 use lib.Dec.{leb}
 use borrow.Author.Tests.{le-leb, lt-leb}
@@ -31,21 +31,13 @@ noTerms =
       overhauls = record { grow = 0; count = 0; ages = []; amounts = [] };
     }
 
-and-true : (b : Bool) → b ≡ b && true
-and-true true = refl
-and-true false = refl
-
-and-false : (b : Bool) → b && false ≡ false
-and-false true = refl
-and-false false = refl
-
 module _ (a : Kept) where
   -- after n + 1 years, not more than the longest life, only the shortest is asked
   pub end-test :
       (n : ℕ) {shortest : ℕ} → shortest ≡ a .terms .shortest → n < a .terms .longest → leb shortest (n + 1) ≡ mayEnd a (a .from + (n + 1))
   end-test n e l =
       let years : a .from + (n + 1) - a .from ≡ n + 1 = omega arith in
-      rw (e, years, le-leb (n + 1) (a .terms .longest) (omega arith)) (and-true (leb (a .terms .shortest) (n + 1)))
+      rw (e, years, le-leb (n + 1) (a .terms .longest) (omega arith)) (sym (and-true (leb (a .terms .shortest) (n + 1))))
 
   -- a walk of n + 1 years has paid the arc to that end
   pub end-paid : (w : Walk) (n : ℕ) → w ≡ walkAt a (n + 1) → w .cost .0 ≡ keptCost a (a .from + (n + 1))

@@ -2,7 +2,7 @@
 -- and for replacements, where it is the table's (`tail-best`). Assumes nothing.
 use Prim.Native.Nat.{ℕ, _+_, _-_, _≤_, _<_}
 use mathlib.Core.Path.{_≡_, refl, ap, sym, _∙_}
-use mathlib.Core.Bool.{Bool, true, false, _&&_, _||_}
+use mathlib.Core.Bool.{true, false, _&&_, or-false}
 use mathlib.Core.List.{List}
 use mathlib.Core.Logic.{inl}
 use native.Mathlib.Omega.{arith}
@@ -30,10 +30,6 @@ use Rattle.tails.specs.Best.{shown, bestOver, mayEnd, keptCost, wordOf, 
 use Rattle.tails.specs.declared.Best.{Best}
 use Rattle.tails.proofs.TailLaws.{tail-step, tail-le}
 use Rattle.tails.proofs.BestLaws.{best-shown}
-
-or-false : (b : Bool) → b || false ≡ b
-or-false true = refl
-or-false false = refl
 
 -- a length of a year or more lies between the two lives
 length-some :

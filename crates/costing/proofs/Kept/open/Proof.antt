@@ -14,7 +14,9 @@ paid-once-requires-3 : tie.Need-paid-once-requires-3
 paid-once-requires-3 c κs = search needs
 
 returns : tie.Need-returns
-returns c = walk-zero _ (c .before .before .before .before .before .before .before .pre .1 .number) (c .before .before .paid-once .ensures) (c .before .paid-once2 .ensures) (c .paid-once3 .ensures)
+returns c =
+    let s = c .before .before .before .before .before .before .before in
+    walk-zero _ (s .pre .1 .number) (c .before .before .paid-once .ensures) (c .before .paid-once2 .ensures) (c .paid-once3 .ensures)
 
 pub open-spec : {M : Type 1} → statement M
 open-spec =

@@ -34,13 +34,16 @@ overhaul-at-requires c κs =
     let h = s .pre .0 in
     let d = s .pre .1 in
     let o = h .terms .overhauls in
-    ((rw (d .number) (amount-fits _ _ _ (h .low) (h .high) (o .grow .high) (o .amount _ (c .loop-test .taken))), d .ready), (h .from, s .pre .2))
+    let fits = amount-fits _ _ _ (h .low) (h .high) (o .grow .high) (o .amount _ (c .loop-test .taken)) in
+    ((rw (d .number) fits, d .ready), (h .from, s .pre .2))
 
 sum-next :
     (c : tie.After-overhaul-at Inv-loop μ-loop) →
     let a = c .before .before .before .before .before .before .before .args in
     c .before .before .loop .sum + c .overhaul-at .result .0 ≡ dueBy (a .self) (a .n) (c .before .before .loop .j + 1)
-sum-next c = rw (c .before .before .loop .inv .1, c .overhaul-at .ensures) (dueBy-suc _ _ _ (c .before .before .before .before .before .before .before .pre .1 .number))
+sum-next c =
+    let s = c .before .before .before .before .before .before .before in
+    rw (c .before .before .loop .inv .1, c .overhaul-at .ensures) (dueBy-suc _ _ _ (s .pre .1 .number))
 
 add-sum : tie.Need-add-sum Inv-loop μ-loop
 add-sum c =

@@ -1,5 +1,5 @@
 -- The quotient: what the guess from below leaves is divided. Assumes nothing.
-use Prim.Native.Nat.{_/_, _%_}
+use Prim.Native.Nat.{_/_, _%_, _^_}
 use mathlib.Core.Path.{sym}
 use native.Mathlib.Omega.{arith}
 use Rattle.division.proofs.GuessLaws.{small-product-le, product-fits, guess-le, quotient-off, nothing-left, quotient-le}
@@ -14,16 +14,16 @@ returns : tie.Need-returns
 returns c = let s = c .before in sym (nothing-left (s .args .self) (s .pre) (s .args .n) (omega (arith, c .if1 .taken)))
 
 mul-product : tie.Need-mul-product
-mul-product c = omega (arith, small-product-le (c .args .n / 4_294_967_296) (c .args .self .high) (omega arith) (c .pre .high))
+mul-product c = omega (arith, small-product-le (c .args .n / 2 ^ 32) (c .args .self .high) (omega arith) (c .pre .high))
 
 mul-product-2 : tie.Need-mul-product-2
-mul-product-2 c = omega (arith, small-product-le (c .args .n / 4_294_967_296) (c .args .self .low) (omega arith) (c .pre .low))
+mul-product-2 c = omega (arith, small-product-le (c .args .n / 2 ^ 32) (c .args .self .low) (omega arith) (c .pre .low))
 
 add-product : tie.Need-add-product
 add-product c = omega (arith, product-fits (c .args .self) (c .pre) (c .args .n) (omega arith))
 
 mul-product-3 : tie.Need-mul-product-3
-mul-product-3 c = omega (arith, small-product-le (c .args .n % 4_294_967_296) (c .args .self .high) (omega arith) (c .pre .high))
+mul-product-3 c = omega (arith, small-product-le (c .args .n % 2 ^ 32) (c .args .self .high) (omega arith) (c .pre .high))
 
 add-product-2 : tie.Need-add-product-2
 add-product-2 c = omega (arith, product-fits (c .args .self) (c .pre) (c .args .n) (omega arith))

@@ -86,7 +86,10 @@ year-requires c κs =
     let loop = c .before .before .loop in
     let years = walk-years kept (loop .walk) (loop .n) (loop .inv .1) in
     let due : ℕ → ℕ = λ n. worth kept (overhaulsAt kept n) in
-    ((s .pre .0 .0, s .pre .0 .1, omega (arith, years, inside (c .before), short s)), (walk-stands kept (loop .walk) (loop .n) (loop .inv .1), c .due .ensures .0 ∙ ap due (sym years)))
+    let stands = walk-stands kept (loop .walk) (loop .n) (loop .inv .1) in (
+      (s .pre .0 .0, s .pre .0 .1, omega (arith, years, inside (c .before), short s)),
+      (stands, c .due .ensures .0 ∙ ap due (sym years)),
+    )
 
 add-n : tie.Need-add-n Inv-loop μ-loop
 add-n c = omega (arith, inside (c .before .before), short (start (c .before .before .before)))
