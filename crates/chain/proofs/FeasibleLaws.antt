@@ -1,5 +1,5 @@
 -- Laws of `Feasible`: the tests and the facts agree (`reaches-iff`, `feasible-iff`); the years of a feasible chain are in order
--- (`ordered-of-feasible`), and its bytes give it back (`decode-feasible`). Assumes nothing.
+-- (`ordered-of-feasible`) and its replacements at most T (`few-ends`), and its bytes give it back (`decode-feasible`). Assumes nothing.
 use Prim.Native.Nat.{ℕ, _+_, _≤_, _<_}
 use mathlib.Core.Path.{_≡_}
 use mathlib.Core.List.{List, [], _∷_}
@@ -83,13 +83,17 @@ rising-length : (T y : ℕ) (ks : List ℕ) → Climbs T y ks → length ks + y 
 rising-length T y [] h = omega (arith, h .early)
 rising-length T y (k ∷ ks) h = omega (arith, h .rising .0, rising-length T k ks (climbs-rest h))
 
+-- so a feasible chain has at most T replacements
+pub few-ends : (p : PlanningSheet) (c : Chain) → Feasible p c → length (c .ends) ≤ p .horizon
+few-ends p c h = omega (arith, rising-length (p .horizon) (c .j) (c .ends) (ordered-of-feasible p c h .climbs))
+
 narrow-inside : (T : ℕ) → T < 65_536 → (ks : List ℕ) → Every (λ k. k ≤ T) ks → Every (λ k. k < 65_536) ks
 narrow-inside T far [] h = tt
 narrow-inside T far (k ∷ ks) h = (omega (arith, h .0), narrow-inside T far ks (h .1))
 
 pub narrow-of-feasible : (p : PlanningSheet) → p .horizon < 65_536 → (c : Chain) → Feasible p c → Narrow c
 narrow-of-feasible p far c h =
-    let few = rising-length (p .horizon) (c .j) (c .ends) (ordered-of-feasible p c h .climbs) in
+    let few = few-ends p c h in
     record {
       first = omega (arith, h .inside .0);
       second = omega (arith, h .inside .1 .0);

@@ -86,7 +86,7 @@ part-rest l (x ∷ xs) at h =
     (rw (← append-snoc l x xs) (part-rest (l ++ (x ∷ [])) xs (at + 1) (simp length-append (omega arith))))
 
 -- a u16 is a number in two bytes
-u16At-number : (s : List ℕ) (at : ℕ) → u16At s at ≡ numberAt s at 2
+pub u16At-number : (s : List ℕ) (at : ℕ) → u16At s at ≡ numberAt s at 2
 unfolding u16At numberAt
 u16At-number s at = omega arith
 
@@ -126,7 +126,7 @@ module _ (total : ℕ) (c : Chain) where
   totalField-encode h = number-part (encode total c) 5 8 total h refl
 
   module _ (narrow : Narrow c) where
-    countField-encode : countField (encode total c) ≡ length (c .ends)
+    pub countField-encode : countField (encode total c) ≡ length (c .ends)
     unfolding encode header bytes part
     countField-encode = u16At-part (encode total c) 17 (length (c .ends)) (narrow .count) refl
 

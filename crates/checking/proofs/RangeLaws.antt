@@ -1,4 +1,4 @@
--- What `checked` answers: its total is 0, and its number and option are in the table. Assumes nothing.
+-- What `checked` answers: its total is 0, its number at most 9, and both number and option are in the table. Assumes nothing.
 use Prim.Native.Nat.{ℕ, _≤_, _<_}
 use mathlib.Core.Path.{_≡_, refl}
 use mathlib.Core.List.{List}
@@ -41,6 +41,9 @@ module _ (P : Answer → Type 0) (a : P (accepted 0)) (r : (n k : ℕ) → n ≤
 
 pub checked-total : (s : List ℕ) → checked s .total ≡ 0
 checked-total = checked-all (λ (a : Answer). a .total ≡ 0) refl (λ n k h l. refl)
+
+pub checked-number-le : (s : List ℕ) → checked s .number ≤ 9
+checked-number-le = checked-all (λ (a : Answer). a .number ≤ 9) (lit≤ tt) (λ n k h l. h)
 
 pub checked-range : (s : List ℕ) → InTable (checked s)
 checked-range =

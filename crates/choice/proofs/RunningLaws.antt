@@ -1,11 +1,14 @@
 -- Laws of the running choice: what `weigh` does in each of its cases; and `over`, which takes one end more at the last end (`over-offered`,
--- `over-passed`) or at the first (`over-first`, `over-start`), and reads only the ends that are offered (`over-same`). Assumes nothing.
+-- `over-passed`) or at the first (`over-first`, `over-start`), reads only the ends that are offered (`over-same`), and has taken one of them or
+-- is the choice that it began with (`over-taken`). Assumes nothing.
 use Prim.Native.Nat.{ℕ, zero, suc, _+_, _≤_, _<_}
-use mathlib.Core.Path.{_≡_, refl}
-use mathlib.Core.Bool.{Bool, true, false, cond}
+use mathlib.Core.Path.{_≡_, refl, sym, _∙_}
+use mathlib.Core.Bool.{Bool, true, false, cond, Bool-discrete, not-eq-not, false≢true}
 use mathlib.Core.List.{_∷_}
+use mathlib.Core.Logic.{_⊎_, inl, inr, ⊎-elim, by-cases}
 use native.Mathlib.Nat.{add-zero}
 use native.Mathlib.Omega.{arith}
+use lib.Dec.{leb, eqb}
 use borrow.Author.Tests.{le-leb, lt-leb, eq-eqb, ne-eqb}
 use Rattle.choice.specs.Running.{Entry, noTotal, weigh, over}
 
@@ -67,3 +70,35 @@ module _ (offered offered′ : ℕ → Bool) (cost cost′ : ℕ → ℕ) (g g�
       let high : s + k < s + suc k = omega arith in
       rw (so-far, ← o (s + k) low high)
       (cond-same (offered (s + k)) _ _ _ (λ on. rw (c (s + k) low high on, b (s + k) low high on)))
+
+-- one of two conditions keeps x
+kept-or-taken : (b c : Bool) (x y : Entry) → (cond b x (cond c y x) ≡ x) ⊎ ((b ≡ false) × (cond b x (cond c y x) ≡ y))
+kept-or-taken true c x y = inl refl
+kept-or-taken false true x y = inr (refl, refl)
+kept-or-taken false false x y = inl refl
+
+module _ (offered : ℕ → Bool) (cost : ℕ → ℕ) (behind : ℕ → Entry) where
+  -- an arc to year e, which is offered, and the entry behind it
+  pub record Takes (t : Entry) (e : ℕ) : Type 0 where
+    pub on : offered e ≡ true
+    pub there : behind e .total ≡ noTotal → ⊥
+    pub taken : t ≡ record { total = cost e + behind e .total; ends = e ∷ behind e .ends }
+
+  weigh-taken : (best : Entry) (e : ℕ) → offered e ≡ true → (weigh best (cost e) e (behind e) ≡ best) ⊎ Takes (weigh best (cost e) e (behind e)) e
+  unfolding weigh
+  weigh-taken best e on =
+      ⊎-elim inl
+      (λ h. inr (record { on = on; there = λ q. false≢true (sym (h .0) ∙ eq-eqb (behind e .total) noTotal q); taken = h .1 }))
+      (kept-or-taken (eqb (behind e .total) noTotal) (leb (cost e + behind e .total) (best .total)) best _)
+
+  pub over-taken :
+      (s : ℕ) (best : Entry) (k : ℕ)
+      → (over offered cost behind s best k ≡ best) ⊎ ((e : ℕ) × Takes (over offered cost behind s best k) e)
+  over-taken s best zero = inl (over-zero offered cost behind s best)
+  over-taken s best (suc k) =
+      let before = over-taken s best k in
+      by-cases (Bool-discrete (offered (s + k)) true)
+      (λ on.
+      rw (over-offered offered cost behind s best k on)
+      (⊎-elim (λ same. rw same before) (λ h. inr (s + k, h)) (weigh-taken (over offered cost behind s best k) (s + k) on)))
+      (λ off. rw (over-passed offered cost behind s best k (not-eq-not .0 off)) before)

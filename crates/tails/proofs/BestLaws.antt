@@ -2,8 +2,9 @@
 -- (`best-next`), ends that are not offered (`best-past`), and what it shows of the choice of entries (`best-shown`). Assumes nothing.
 use Prim.Native.Nat.{ℕ, zero, suc, _+_, _≤_, _<_}
 use mathlib.Core.Path.{_≡_, refl}
-use mathlib.Core.Bool.{Bool, true, false, cond}
+use mathlib.Core.Bool.{Bool, true, false, cond, Bool-discrete, not-eq-not}
 use mathlib.Core.List.{_∷_}
+use mathlib.Core.Logic.{by-cases}
 use native.Mathlib.Omega.{arith}
 use native.Mathlib.Nat.{add-zero, add-suc}
 use native.Mathlib.Numerals.{add-one}
@@ -51,22 +52,24 @@ shown-cond : (b : Bool) (x y : Entry) → cond b (shown x) (shown y) ≡ shown (
 shown-cond true x y = refl
 shown-cond false x y = refl
 
-weigh-shown : (best : Entry) (cost e : ℕ) (behind : Entry) → weighed (shown best) cost e (behind .total) ≡ shown (weigh best cost e behind)
+pub weigh-shown : (best : Entry) (cost e : ℕ) (behind : Entry) → weighed (shown best) cost e (behind .total) ≡ shown (weigh best cost e behind)
 unfolding weighed weigh
 weigh-shown best cost e behind =
     let taken : Entry = record { total = cost + behind .total; ends = e ∷ behind .ends } in
     rw (shown-cond (leb (cost + behind .total) (best .total)) taken best)
     (shown-cond (eqb (behind .total) noTotal) best (cond (leb (cost + behind .total) (best .total)) taken best))
 
--- by the totals of the entries behind the ends
+-- by the totals of the entries behind the ends that are offered
 pub best-shown :
     (offered : ℕ → Bool) (cost words : ℕ → ℕ) (behind : ℕ → Entry) (s : ℕ) (best : Entry) (k : ℕ)
-    → ((e : ℕ) → s ≤ e → e < s + k → words e ≡ behind e .total)
+    → ((e : ℕ) → s ≤ e → e < s + k → offered e ≡ true → words e ≡ behind e .total)
     → bestOver offered cost words s (shown best) k ≡ shown (over offered cost behind s best k)
 unfolding bestOver over
 best-shown offered cost words behind s best zero h = refl
 best-shown offered cost words behind s best (suc k) h =
     let e = s + k in
     let so-far = over offered cost behind s best k in
-    rw (best-shown offered cost words behind s best k (λ e l m. h e l (omega arith)), h e (omega arith) (omega arith))
-    (rw (weigh-shown so-far (cost e) e (behind e)) (shown-cond (offered e) (weigh so-far (cost e) e (behind e)) so-far))
+    let before = best-shown offered cost words behind s best k (λ e l m. h e l (omega arith)) in
+    by-cases (Bool-discrete (offered e) true)
+    (λ on. rw (on, before, h e (omega arith) (omega arith) on) (weigh-shown so-far (cost e) e (behind e)))
+    (λ off. let no : offered e ≡ false = not-eq-not .0 off in rw no before)

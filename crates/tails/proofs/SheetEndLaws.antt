@@ -59,15 +59,16 @@ module _ (p : PlanningSheet) (option y : ℕ) (a : Kept) (read : (e : ℕ) → a
       (sym
       (offered-in p option y e well ∙ length-some (p .option option .shortest) (p .option option .longest) option (e - y) (omega arith)))
 
-  -- by words that have the totals of the entries behind the ends
-  ends-over :
+  -- by words that have the totals of the entries behind the ends that are offered
+  pub ends-over :
       (words : ℕ → ℕ) (behind : ℕ → Entry) (best : Entry) → ((e : ℕ) → y < e → e ≤ p .horizon → placed (p .horizon) option y e ≡ true)
-      → ((e : ℕ) → y < e → e ≤ p .horizon → words e ≡ behind e .total)
+      → ((e : ℕ) → y < e → e ≤ p .horizon → offered p option y e ≡ true → words e ≡ behind e .total)
       → bestOver (mayEnd a) (keptCost a) words (y + 1) (shown best) (p .horizon - y)
       ≡ shown (over (offered p option y) (costTo p option y) behind (y + 1) best (p .horizon - y))
   ends-over words behind best well held =
       let n = p .horizon - y in
-      best-shown (mayEnd a) (keptCost a) words behind (y + 1) best n (λ e l m. held e (omega arith) (omega arith))
+      best-shown (mayEnd a) (keptCost a) words behind (y + 1) best n
+      (λ e l m on. held e (omega arith) (omega arith) (sym (end-offered e (well e (omega arith) (omega arith)) (omega arith)) ∙ on))
       ∙ ap shown
       (over-same (mayEnd a) (offered p option y) (keptCost a) (costTo p option y) behind behind (y + 1) best n
       (λ e l m. end-offered e (well e (omega arith) (omega arith)) (omega arith)) (λ e l m on. end-cost e) (λ e l m on. refl))
@@ -91,7 +92,7 @@ module _ (p : PlanningSheet) (s : Sheet) (other : Terms) (read : s ≡ parsed p)
   unfolding bestEnd
   tail-over y early held =
       ends-over p replace y (keptOf s other replace y) (λ e. kept-read p replace y e s other read (omega arith)) words (tail p) noEntry
-      (λ e l m. replace-placed (p .horizon) y e l m) held
+      (λ e l m. replace-placed (p .horizon) y e l m) (λ e l m on. held e l m)
       ∙ ap (λ (first : ℕ). shown (over (offered p replace y) (costTo p replace y) (tail p) first noEntry (p .horizon - y))) (add-one y)
       ∙ ap shown
       (sym (over-start (offered p replace y) (costTo p replace y) (tail p) y noEntry (p .horizon - y) (not-at-once p y))

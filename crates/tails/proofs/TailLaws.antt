@@ -1,6 +1,7 @@
 -- The table holds what document 01 asks. Its entry of T is empty (`tail-last`), that of an earlier year the best end by the later entries
--- (`tail-step`). An entry has the chosen list of replacements from its year to T (`tail-holds`), and a total that is at most what the years
--- left can cost (`tail-le`): total and first end are the cheapest (`tail-cheapest`). Assumes nothing.
+-- (`tail-step`). The best end of an option is the entry of the lists that begin with it (`best-holds`); so an entry of the table has the chosen
+-- list of replacements from its year to T (`tail-holds`), and a total that is at most what the years left can cost (`tail-le`): total and
+-- first end are the cheapest (`tail-cheapest`). Assumes nothing.
 use Prim.Native.Nat.{ℕ, suc, _+_, _-_, _*_, _≤_, _<_}
 use mathlib.Core.Path.{_≡_, refl, ap}
 use mathlib.Core.List.{List, [], _∷_}
@@ -84,24 +85,31 @@ module _ (p : PlanningSheet) where
       least (k ∷ ks) m = let o = m .offered .0 in absurd (omega (arith, replace-forward p (p .horizon) k o, o .inside))
 
   module _ (fit : Fit (parsed p)) where
-    room-lt : (y : ℕ) → room y < noTotal
+    pub room-lt : (y : ℕ) → (p .horizon - y) * yearly < noTotal
     room-lt y = omega (arith, fit .horizonHigh, horizon-read (parsed p) p refl)
 
-    room-fits : (y e : ℕ) → offered p replace y e ≡ true → costTo p replace y e + room e ≤ room y
-    room-fits y e on =
-        let o = offered-later y e on in
-        let most = cost-le p replace y e fit (omega arith) (omega arith) (o .1) in
-        omega arith
+    -- the best end of an option from y, where the entries behind the ends are those of the lists that go on from there
+    pub best-holds :
+        (option y : ℕ) (behind : ℕ → Entry) (Rest : ℕ → List ℕ → Type 0) (rest : ℕ → List ℕ → ℕ)
+        → ((e : ℕ) → offered p option y e ≡ true → Holds (Rest e) (rest e) ((p .horizon - e) * yearly) (behind e))
+        → Holds (Then (offered p option y) Rest) (thenWeight (costTo p option y) rest) ((p .horizon - y) * yearly) (bestEnd p option behind y)
+    unfolding bestEnd
+    best-holds option y behind Rest rest held =
+        over-holds (offered p option y) (costTo p option y) behind Rest rest room (room y) (room-lt y) held fits y (suc (p .horizon - y))
+        (λ e on. let o = offered-iff p option y e .0 on in (o .forward, omega (arith, o .forward, o .inside)))
+      where
+        fits : (e : ℕ) → offered p option y e ≡ true → costTo p option y e + room e ≤ room y
+        fits e on =
+            let o = offered-iff p option y e .0 on in
+            let most = cost-le p option y e fit (o .known) (o .forward) (o .inside) in
+            omega (arith, o .forward, o .inside)
 
     holds-step :
         (y : ℕ) → y < p .horizon → ((e : ℕ) → y < e → e ≤ p .horizon → HoldsAt e (tail p e)) → HoldsAt y (bestEnd p replace (tail p) y)
-    unfolding bestEnd
     holds-step y h later =
         holds-same (Then (offered p replace y) (Reaches p)) (Reaches p y) (thenWeight (costTo p replace y) (replaced p)) (replaced p y)
         (reaches-then y h) (replaced-then y) (room y) _
-        (over-holds (offered p replace y) (costTo p replace y) (tail p) (Reaches p) (replaced p) room (room y) (room-lt y)
-        (λ e on. let o = offered-later y e on in later e (o .0) (o .1)) (room-fits y) y (suc (p .horizon - y))
-        (λ e on. let o = offered-later y e on in (omega arith, omega arith)))
+        (best-holds replace y (tail p) (Reaches p) (replaced p) (λ e on. let o = offered-later y e on in later e (o .0) (o .1)))
 
     pub tail-holds : (y : ℕ) → y ≤ p .horizon → Holds (Reaches p y) (replaced p y) ((p .horizon - y) * yearly) (tail p y)
     unfolding tail

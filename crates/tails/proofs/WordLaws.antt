@@ -120,6 +120,9 @@ module _ (p : PlanningSheet) where
     unfolding wordsFrom
     words-length n = rw (length-sets, length-sets)
 
+    pub tail-words-length : length (tailWords p words) ≡ length words
+    tail-words-length = rw (← words-all) (words-length (p .horizon))
+
     pub words-read :
         p .horizon ≤ 300 → 602 ≤ length words → (y e : ℕ) → y ≤ e → e ≤ p .horizon
         → (getD (wordsFrom p (p .horizon - y) words) e 0 ≡ tail p e .total)
@@ -137,6 +140,14 @@ module _ (p : PlanningSheet) where
           sets-same firstEnd ts totals (301 + y) (301 + e) (e - y) (omega arith) (omega arith) (omega arith) ∙ ap firstEnd read,
         )
 
+    -- after planning, those of every year
+    pub tail-words-read :
+        p .horizon ≤ 300 → 602 ≤ length words → (y : ℕ) → y ≤ p .horizon
+        → (getD (tailWords p words) y 0 ≡ tail p y .total) × (getD (tailWords p words) (301 + y) 0 ≡ firstEnd (tail p y))
+    tail-words-read far room y l =
+        let all = ap (λ (n : ℕ). wordsFrom p n words) (sub-zero (p .horizon)) ∙ words-all in
+        rw (← all) (words-read far room 0 y (omega arith) l)
+
     pub words-others : (k : ℕ) → ((p .horizon < k) × (k < 301)) ⊎ (301 + p .horizon < k) → getD (tailWords p words) k 0 ≡ getD words k 0
     unfolding tailWords tails
     words-others k out =
@@ -149,12 +160,10 @@ pub words-cheapest :
     (p : PlanningSheet) → Fit (parsed p) → (words : List ℕ) → 602 ≤ length words → CheapestWords p words (tailWords p words)
 words-cheapest p fit words room =
     let far : p .horizon ≤ 300 = omega (arith, fit .horizonHigh, horizon-read (parsed p) p refl) in
-    let all = ap (λ (n : ℕ). wordsFrom p n words) (sub-zero (p .horizon)) ∙ words-all p words in
-    let read = rw all at (words-read p words far room 0) in
     record {
-      cheapest = λ y l. let r = read y (omega arith) l in rw (r .0, r .1) (tail-cheapest p fit y l);
+      cheapest = λ y l. let r = tail-words-read p words far room y l in rw (r .0, r .1) (tail-cheapest p fit y l);
       others = words-others p words;
-      lengthKept = rw (← words-all p words) (words-length p words (p .horizon));
+      lengthKept = tail-words-length p words;
     }
 
 -- for every sheet that passes the checks, and all lists of 602 words or more, whatever they held

@@ -11,7 +11,6 @@ use Rattle.sheet.specs.declared.Terms.{Terms}
 use Rattle.costing.specs.Arc.{paid, worth}
 use Rattle.costing.specs.Fit.{yearly}
 use Rattle.costing.specs.declared.Kept.{Kept}
-use Rattle.chain.specs.Chain.{replace}
 use Rattle.streams.specs.Streams.{Streams}
 use Rattle.choice.specs.Running.{Entry, noTotal}
 use Rattle.tails.specs.Words.{firstOf}
@@ -47,8 +46,8 @@ wordOf words y = getD words y 0
 abbrev pub WordsFit : (T y : ℕ) → List ℕ → Type 0
 WordsFit T y words = (e : ℕ) → y < e → e ≤ T → (wordOf words e ≡ noTotal → ⊥) → wordOf words e ≤ (T - e) * yearly
 
--- what is lent with a sheet: the streams of its option replace, and the ages of that option's overhauls
-abbrev pub Lent : Sheet → (streams ages : List ℕ) → Type 0
-Lent s streams ages =
+-- what is lent with a sheet for one of its options: that option's streams, and the ages of its overhauls
+abbrev pub Lent : Sheet → (option : ℕ) (streams ages : List ℕ) → Type 0
+Lent s option streams ages =
     (other : Terms)
-    → Streams (s .discount) (getD (s .options) replace other) (s .horizon) streams × (ages ≡ getD (s .options) replace other .overhauls .ages)
+    → Streams (s .discount) (getD (s .options) option other) (s .horizon) streams × (ages ≡ getD (s .options) option other .overhauls .ages)

@@ -1,5 +1,5 @@
 // The cheapest replacements from every year to the horizon: the words that planning lends.
-// Nothing here is a public call: `tail_words` and `best_end` serve the crates above, which meet what they require.
+// Nothing here is a public call: `tail_words`, `lend`, `weigh` and `best_end` serve the crates above, which meet what they require.
 
 ghost use mathlib.Core.Path.{_≡_};
 ghost use Prim.Native.Nat.{_≤_};
@@ -12,6 +12,7 @@ ghost use Rattle.tails.specs.Cheapest.{CheapestWords};
 use division::Divisor;
 use sheet::Sheet;
 
+pub mod lending;
 pub mod weighing;
 mod words;
 
@@ -31,10 +32,7 @@ pub fn tail_words(words: &mut [u64], sheet: Sheet)
     ensures cheapest { λ _. ⌜ ((p : PlanningSheet) → sheet ≡ parsed p → CheapestWords p (now (words .entry)) (now (words .exit))) ⌝ }
 {
     let discount = Divisor::of(sheet.discount);
-    let terms = sheet.options[REPLACE];
     let mut streams = [0u64; streams::PLACES];
-    streams::fill(&mut streams, terms, discount, sheet.horizon);
-    let overhauls = terms.overhauls;
-    let ages = overhauls.ages;
+    let ages = lending::lend(&mut streams, sheet, discount, REPLACE);
     words::fill(words, &streams, &ages, sheet, discount);
 }

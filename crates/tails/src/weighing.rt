@@ -16,14 +16,14 @@ use division::Divisor;
 // No total: no list leads to the horizon.
 pub const NONE: u64 = 18_446_744_073_709_551_615;
 
-fn least(a: u64, b: u64) -> u64
+pub fn least(a: u64, b: u64) -> u64
     ensures { λ r. ⌜ r ≡ min a b ⌝ }
 {
     if a < b { a } else { b }
 }
 
 // The better of the choice so far and an arc to year end, if that is offered, with a total behind it: of equal totals the later end.
-fn weigh(offered: bool, best: Best, cost: Units, end: u64, behind: u64) -> Best
+pub fn weigh(offered: bool, best: Best, cost: Units, end: u64, behind: u64) -> Best
     requires { ⌜ ((behind ≡ noTotal → ⊥) → cost .0 + behind < 2 ^ 64) ⌝ }
     ensures { λ r. ⌜ r ≡ cond offered (weighed best (cost .0) end behind) best ⌝ }
 {

@@ -7,6 +7,7 @@ ghost use Rattle.sheet.specs.Sheet.{PlanningSheet};
 ghost use Rattle.sheet.specs.Parsed.{parsed, IsParsed};
 ghost use Rattle.checking.specs.Fit.{Fit};
 ghost use Rattle.costing.specs.Fit.{Divides};
+ghost use Rattle.chain.specs.Chain.{replace};
 ghost use Rattle.tails.specs.Best.{Lent};
 ghost use Rattle.tails.specs.Words.{tailWords};
 use crate::Best;
@@ -19,7 +20,7 @@ use sheet::Sheet;
 // Writes word y and word 301 + y for y from T down to 0.
 pub fn fill(words: &mut [u64], streams: &[u64], ages: &[u64; 8], sheet: Sheet, discount: Divisor)
     requires { ⌜ Fit sheet × IsParsed sheet × Divides discount (sheet .discount) ⌝ }
-    requires { ⌜ Lent sheet (now streams) (now ages) × (602 ≤ length (now words)) ⌝ }
+    requires { ⌜ Lent sheet replace (now streams) (now ages) × (602 ≤ length (now words)) ⌝ }
     ensures { λ _. ⌜ ((p : PlanningSheet) → sheet ≡ parsed p → now (words .exit) ≡ tailWords p (now (words .entry))) ⌝ }
 {
     let horizon = sheet.horizon;

@@ -1,0 +1,76 @@
+// The chosen chain of a sheet, by the paper's nested choice: the words have the replacements from each year, renovating is chosen by them,
+// and maintaining by renovating. Nothing here is a public call: `best_front` and `ends_from` serve the planner, which meets what they require.
+
+ghost use mathlib.Core.Path.{_≡_};
+ghost use Prim.Native.Nat.{_≤_};
+ghost use lib.ListN.{length};
+ghost use Rattle.sheet.specs.Sheet.{PlanningSheet};
+ghost use Rattle.sheet.specs.Parsed.{parsed, IsParsed};
+ghost use Rattle.checking.specs.Fit.{Fit};
+ghost use Rattle.costing.specs.Fit.{Divides};
+ghost use Rattle.choice.specs.Running.{noTotal};
+ghost use Rattle.tails.specs.Best.{wordOf};
+ghost use Rattle.front.specs.Planned.{planned};
+ghost use Rattle.front.specs.Front.{front, TailsLent, Follows};
+use division::Divisor;
+use sheet::Sheet;
+use tails::lending;
+use tails::weighing;
+
+mod following;
+mod keeping;
+mod maintaining;
+mod renovating;
+
+// The options by their numbers.
+const MAINTAIN: usize = 0;
+
+const RENOVATE: usize = 1;
+
+const REPLACE: usize = 2;
+
+// How the chosen chain begins: its total, the end of maintaining and the end of renovating.
+pub struct Front {
+    pub total: u64,
+    pub i: u64,
+    pub j: u64,
+}
+
+// The total of the chosen chain, and how it begins; no total where there is no chain.
+pub fn best_front(words: &[u64], sheet: Sheet, discount: Divisor) -> Front
+    requires { ⌜ Fit sheet × IsParsed sheet × Divides discount (sheet .discount) ⌝ }
+    requires { ⌜ TailsLent sheet (now words) ⌝ }
+    ensures { λ r. ⌜ ((p : PlanningSheet) → sheet ≡ parsed p → r ≡ front (planned p)) ⌝ }
+{
+    let mut totals = [weighing::NONE; 301];
+    let mut ends = [0u64; 301];
+    renovating::renovations(&mut totals, &mut ends, words, sheet, discount);
+    let best = maintaining::best_maintain(&totals, sheet, discount);
+    let total = best.total;
+    let i = best.end;
+    if total == weighing::NONE {
+        return Front {
+            total: total,
+            i: 0,
+            j: 0,
+        };
+    }
+    let j = ends[i as usize];
+    Front {
+        total: total,
+        i: i,
+        j: j,
+    }
+}
+
+// Writes the ends of the chosen replacements from year j on, and answers how many there are.
+pub fn ends_from(ends: &mut [u64], words: &[u64], sheet: Sheet, discount: Divisor, j: u64) -> usize
+    requires { ⌜ Fit sheet × IsParsed sheet × Divides discount (sheet .discount) ⌝ }
+    requires { ⌜ TailsLent sheet (now words) × (j ≤ sheet .horizon) × (wordOf (now words) j ≡ noTotal → ⊥) ⌝ }
+    requires { ⌜ 300 ≤ length (now ends) ⌝ }
+    ensures { λ r. ⌜ ((p : PlanningSheet) → sheet ≡ parsed p → Follows p j r (now (ends .exit))) ⌝ }
+{
+    let mut streams = [0u64; streams::PLACES];
+    let ages = lending::lend(&mut streams, sheet, discount, REPLACE);
+    following::follow(ends, words, &streams, &ages, sheet, discount, j)
+}

@@ -1,0 +1,49 @@
+-- What the code has found is the planned chain: how it begins, and the ends that were followed from there (`found-read`), by the words that
+-- have been written (`tails-lent`). Assumes nothing.
+use Prim.Native.Nat.{ℕ, _≤_}
+use mathlib.Core.Path.{_≡_, ap, sym, _∙_}
+use mathlib.Core.List.{List}
+use native.Mathlib.Omega.{arith}
+use lib.ListN.{length, getD, take, drop, length-take}
+use Rattle.sheet.specs.Sheet.{PlanningSheet}
+use Rattle.sheet.specs.Parsed.{parsed}
+use Rattle.sheet.specs.declared.Sheet.{Sheet}
+use Rattle.sheet.proofs.ParsedLaws.{horizon-read}
+use Rattle.chain.specs.Chain.{Chain}
+use Rattle.choice.specs.Running.{noTotal}
+use Rattle.tails.specs.Words.{tailWords}
+use Rattle.tails.specs.Best.{wordOf}
+use Rattle.tails.proofs.WordLaws.{tail-words-read}
+use Rattle.front.specs.Planned.{planned}
+use Rattle.front.specs.Front.{front, TailsLent, Follows}
+use Rattle.front.specs.declared.Front.{Front}
+use Rattle.front.proofs.TakenLaws.{planned-begins}
+use Rattle.planner.specs.Planning.{found}
+
+module _ (p : PlanningSheet) (f : Front) (read : f ≡ front (planned p)) (there : f .total ≡ noTotal → ⊥) (count : ℕ) (ends : List ℕ)
+    (follows : Follows p (f .j) count ends) where
+  pub found-read : record { i = f .i; j = f .j; ends = take count ends } ≡ found p
+  found-read =
+      let years = sym (planned-begins p f read there .goes) in
+      let i = ap (λ (ys : List ℕ). getD ys 0 0) years in
+      let j = ap (λ (ys : List ℕ). getD ys 1 0) years in
+      let rest = follows .1 ∙ ap (drop 2) years in
+      λ k. record { i = i k; j = j k; ends = rest k }
+
+  pub found-count : length (found p .ends) ≡ count
+  found-count = ap (λ (c : Chain). length (c .ends)) (sym found-read) ∙ ap length (follows .1) ∙ sym (follows .0)
+
+  pub found-few : count ≤ length ends
+  found-few = omega (arith, length-take count ends, ap length (follows .1), follows .0)
+
+-- once they are written, the words have the totals of replacements from each year
+pub tails-lent :
+    (s : Sheet) → s .horizon ≤ 300 → (before after : List ℕ) → 602 ≤ length before → length after ≡ length before
+    → ((p : PlanningSheet) → s ≡ parsed p → after ≡ tailWords p before) → TailsLent s after
+tails-lent s far before after room same lent =
+    record {
+      room = omega arith;
+      totals =
+          λ p read y l.
+          ap (λ (l : List ℕ). wordOf l y) (lent p read) ∙ tail-words-read p before (omega (arith, horizon-read s p read)) room y l .0;
+    }

@@ -1,0 +1,11 @@
+-- The laws of planner, in reading order; a file cites only files above it.
+--     PlanningLaws: what planning answers and leaves, way out by way out
+--     FoundLaws: what the code has found is the planned chain
+--     WayLaws: the ways in which planning ends, and which number comes from which
+--     DoneLaws: what is read from the buffer when a plan was written; what each way leaves
+--     Demands: the promises, in the mission's order
+pub mod PlanningLaws
+pub mod FoundLaws
+pub mod WayLaws
+pub mod DoneLaws
+pub mod Demands

@@ -1,0 +1,99 @@
+-- `plan` is what its definitions say: refused by the check, too few words, or what the words and the plan of the chosen chain give. Its
+-- promises follow from that alone. Assumes nothing.
+use Prim.Native.Nat.{ℕ, _≤_}
+use mathlib.Core.Path.{_≡_, refl, ap, sym, subst, _∙_}
+use native.Mathlib.Omega.{arith}
+use denote.Ref.{now}
+use Rattle.sheet.specs.Sheet.{sheetOf}
+use Rattle.checking.specs.Refusals.{checked}
+use Rattle.checking.specs.Passes.{Passes}
+use Rattle.checking.specs.Fit.{Fit}
+use Rattle.checking.specs.declared.Answer.{Answer}
+use Rattle.checking.proofs.FitLaws.{fit}
+use Rattle.front.specs.Front.{TailsLent}
+use Rattle.planner.proofs.PlanningLaws.{plan-refused, plan-few, plan-on}
+use Rattle.planner.proofs.FoundLaws.{tails-lent}
+use Rattle.planner.proofs.Demands.{met}
+use borrow.Author.Needs.{needs}
+use Rattle.planner.proofs.plan.Statement.{statement}
+use Rattle.planner.proofs.plan.Tie as tie
+
+abbrev start : tie.After-check → tie.Start
+start c = c .before .before .before .before
+
+returns : tie.Need-returns
+returns c =
+    let k = c .before .before in
+    met _ _ _ (plan-refused _ _ _ (k .check .result) (k .check .ensures .0) (c .if1 .taken))
+
+-- the sheet passes where the code goes on
+passed : (c : tie.Else1) → checked (now (start (c .before .before) .args .sheet)) .number ≡ 0
+passed c = ap (λ (a : Answer). a .number) (sym (c .before .before .check .ensures .0)) ∙ c .if1 .left
+
+passes : (c : tie.Else1) → Passes (now (start (c .before .before) .args .sheet))
+passes c = c .before .before .check .ensures .1 .0 (c .if1 .left)
+
+returns-2 : tie.Need-returns-2
+returns-2 c =
+    let few = plan-few _ _ _ (passed (c .before .before)) (c .before .if2 .taken) in
+    met _ _ _ (c .refused .ensures ∙ few .0, few .1, few .2)
+
+-- the parsed sheet fits, and the words then have the totals of replacements
+fits : (c : tie.After-parse) → Fit (c .parse .result)
+fits c = subst Fit (sym (c .parse .ensures)) (fit _ (passes (c .before .before)))
+
+lent : (c : tie.After-tail-words) → TailsLent (c .before .before .parse .result) (c .tail-words .last .0)
+lent c =
+    let q = c .before .before in
+    tails-lent _ (fits q .horizonHigh) _ _ (q .before .if2 .left) (c .tail-words .kept .0) (c .tail-words .ensures .0)
+
+returns-3 : tie.Need-returns-3
+returns-3 c =
+    let w = c .before .before in
+    let t = w .before .before .before .before .before in
+    let q = t .before .before in
+    let read = q .parse .ensures in
+    met _ _ _
+    (plan-on _ _ _ (passed (q .before .before)) (q .before .if2 .left) _ _ _ (w .write-chosen .ensures .0 _ read)
+    (w .write-chosen .ensures .1 _ read) (t .tail-words .ensures .0 _ read))
+
+check-requires : tie.Need-check-requires
+check-requires c κs = search needs
+
+refused-requires : tie.Need-refused-requires
+refused-requires c κs = search needs
+
+parse-requires : tie.Need-parse-requires
+parse-requires c κs = passes (c .before) .header .long
+
+tail-words-requires : tie.Need-tail-words-requires
+tail-words-requires c κs =
+    let q = c .before in
+    (fits q, (sheetOf _, q .parse .ensures), q .before .if2 .left)
+
+write-chosen-requires : tie.Need-write-chosen-requires
+write-chosen-requires c κs =
+    let t = c .before .before .before .before in
+    let q = t .before .before in
+    (fits q, (sheetOf _, q .parse .ensures), lent t)
+
+same-length : tie.Need-same-length
+same-length c = search needs
+
+same-length-2 : tie.Need-same-length-2
+same-length-2 c = search needs
+
+pub plan-spec : {M : Type 1} → statement M
+plan-spec =
+    tie.close
+    (tie.spec
+    check-requires
+    returns
+    refused-requires
+    returns-2
+    parse-requires
+    tail-words-requires
+    write-chosen-requires
+    same-length
+    same-length-2
+    returns-3)

@@ -1,0 +1,53 @@
+-- What planning answers, and what it leaves in its buffers: document 01, 'Feasible chains', and rows 10 to 12 of its refusal table.
+-- Definitions only.
+use Prim.Native.Nat.{ℕ, _+_, _*_}
+use mathlib.Core.List.{List}
+use mathlib.Core.Bool.{Bool, cond, _&&_}
+use lib.Dec.{leb, ltb, eqb}
+use lib.ListN.{length}
+use lib.Seq.{sets}
+use Rattle.sheet.specs.Sheet.{PlanningSheet, sheetOf}
+use Rattle.checking.specs.Answer.{accepted, refused, _orElse_}
+use Rattle.checking.specs.Refusals.{checked}
+use Rattle.checking.specs.declared.Answer.{Answer}
+use Rattle.chain.specs.Chain.{Chain}
+use Rattle.chain.specs.PlanBytes.{encode}
+use Rattle.choice.specs.Running.{noTotal}
+use Rattle.tails.specs.Words.{tailWords}
+use Rattle.front.specs.Planned.{planned, chainOf}
+
+-- the chain that planning finds, if there is one
+abbrev pub found : PlanningSheet → Chain
+found p = chainOf (planned p .ends)
+
+-- a plan has 19 + 2m bytes
+abbrev pub planLength : Chain → ℕ
+planLength c = 19 + 2 * length (c .ends)
+
+-- 11: no feasible chain; 12: plan buffer shorter than 19 + 2m for the chain chosen; else its total
+unfoldable pub planning : PlanningSheet → (room : ℕ) → Answer
+planning p room =
+    cond (eqb (planned p .total) noTotal) (refused 11 3)
+    (cond (ltb room (planLength (found p))) (refused 12 3) (accepted (planned p .total)))
+
+-- the plan buffer after that: the plan is written where the chain is accepted, and the bytes behind it are untouched
+unfoldable pub planWritten : PlanningSheet → List ℕ → List ℕ
+planWritten p plan = cond (eqb (planning p (length plan) .number) 0) (sets plan 0 (encode (planned p .total) (found p))) plan
+
+-- 10: fewer than 602 words lent
+abbrev pub wordsEnough : List ℕ → Bool
+wordsEnough words = leb 602 (length words)
+
+-- refusals 1 to 9, then 10, 11 and 12
+unfoldable pub planAnswer : (sheet plan words : List ℕ) → Answer
+planAnswer s plan words = checked s orElse cond (wordsEnough words) (planning (sheetOf s) (length plan)) (refused 10 3)
+
+-- refusals 1 to 10 leave all buffers; else the words are written, and the plan where it is accepted
+abbrev pub goesOn : (sheet words : List ℕ) → Bool
+goesOn s words = eqb (checked s .number) 0 && wordsEnough words
+
+unfoldable pub planAfter : (sheet plan words : List ℕ) → List ℕ
+planAfter s plan words = cond (goesOn s words) (planWritten (sheetOf s) plan) plan
+
+unfoldable pub wordsAfter : (sheet words : List ℕ) → List ℕ
+wordsAfter s words = cond (goesOn s words) (tailWords (sheetOf s) words) words

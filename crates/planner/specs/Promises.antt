@@ -1,0 +1,91 @@
+-- What is owed of every call of planning, for every sheet and all buffers, whatever they held: document 01, the mission's demand 3 and the part
+-- of demand 2 that is about planning. Each is an `ensures` of the call and of its C form. In them:
+--     s, plan, words      the sheet, and what the plan buffer and the lent words held before the call
+--     number, total      what was answered
+--     plan′, words′      what the buffers hold after the call
+-- They speak of document 01's rules alone (`Passes`, `Feasible`, `roundedTotal`, `exactValue`) and of the order of choice, not of how a chain
+-- is found. Definitions only.
+use Prim.Native.Nat.{ℕ, _+_, _*_, _≤_, _<_}
+use mathlib.Core.Path.{_≡_}
+use mathlib.Core.List.{List}
+use mathlib.Core.Logic.{_↔_}
+use lib.ListN.{length, getD, take}
+use Rattle.sheet.specs.Sheet.{PlanningSheet, sheetOf}
+use Rattle.checking.specs.Answer.{accepted}
+use Rattle.checking.specs.Passes.{Passes}
+use Rattle.costing.specs.Error.{allowance}
+use Rattle.chain.specs.Chain.{Chain, Feasible, roundedTotal, exactValue}
+use Rattle.chain.specs.PlanBytes.{totalField, countField, decode}
+use Rattle.chain.specs.Pricing.{priced}
+use Rattle.chain.specs.Error.{denominator, TotalNear}
+use Rattle.tails.specs.Cheapest.{CheapestWords}
+use Rattle.front.specs.ChosenChain.{ChosenChain}
+use Rattle.planner.specs.Planning.{planLength}
+
+-- the sheet passes the checks and at least 602 words are lent
+pub record Ready (s words : List ℕ) : Type 0 where
+  pub passes : Passes s
+  pub enough : 602 ≤ length words
+
+-- 10 exactly where a sheet that passes comes with fewer than 602 words
+abbrev pub RefusedTen : (s words : List ℕ) (number : ℕ) → Type 0
+RefusedTen s words number = (number ≡ 10) ↔ (Passes s × (length words < 602))
+
+-- 11 exactly where no feasible chain exists
+abbrev pub RefusedEleven : (s words : List ℕ) (number : ℕ) → Type 0
+RefusedEleven s words number = (number ≡ 11) ↔ (Ready s words × ((c : Chain) → Feasible (sheetOf s) c → ⊥))
+
+-- 12 exactly where there is a chosen chain and the plan buffer is too short for it
+abbrev pub RefusedTwelve : (s plan words : List ℕ) (number : ℕ) → Type 0
+RefusedTwelve s plan words number =
+    (number ≡ 12) ↔ (Ready s words × ((c : Chain) × (ChosenChain (sheetOf s) c × (length plan < planLength c))))
+
+-- accepted exactly where there is a chosen chain and the plan buffer is long enough for it
+abbrev pub AcceptedWhen : (s plan words : List ℕ) (number : ℕ) → Type 0
+AcceptedWhen s plan words number =
+    (number ≡ 0) ↔ (Ready s words × ((c : Chain) × (ChosenChain (sheetOf s) c × (planLength c ≤ length plan))))
+
+-- with long enough buffers, 602 words and 19 + 2T plan bytes, a sheet that passes is accepted as soon as some chain is feasible
+abbrev pub AmpleAccepted : (s plan words : List ℕ) (number : ℕ) → Type 0
+AmpleAccepted s plan words number =
+    Ready s words → 19 + 2 * sheetOf s .horizon ≤ length plan → (c : Chain) → Feasible (sheetOf s) c → number ≡ 0
+
+-- The returned chain is the one that the written plan holds. It is feasible; no feasible chain has a smaller rounded total; of equal totals
+-- it has the largest i, then the largest j, then the later end at the first replacement where they differ; it is the only such chain. The
+-- printed total is its rounded total: the plan's total field and the total answered are one number.
+pub record Returned (p : PlanningSheet) (total : ℕ) (plan′ : List ℕ) : Type 0 where
+  pub chosen : ChosenChain p (decode plan′)
+  pub least : (c : Chain) → Feasible p c → total ≤ roundedTotal p c
+  pub only : (c : Chain) → ChosenChain p c → c ≡ decode plan′
+  pub sum : total ≡ roundedTotal p (decode plan′)
+  pub field : totalField plan′ ≡ total
+
+abbrev pub ReturnsChosen : (s : List ℕ) (number total : ℕ) (plan′ : List ℕ) → Type 0
+ReturnsChosen s number total plan′ = number ≡ 0 → Returned (sheetOf s) total plan′
+
+-- on 0, 11 and 12, which are the answers to these sheets and words, the words hold the cheapest replacements from every year
+abbrev pub LendsCheapest : (s words words′ : List ℕ) → Type 0
+LendsCheapest s words words′ = Ready s words → CheapestWords (sheetOf s) words words′
+
+-- the first 19 + 2m bytes of what is written are priced at the total that was answered
+abbrev pub PricedAsPrinted : (s : List ℕ) (number total : ℕ) (plan′ : List ℕ) → Type 0
+PricedAsPrinted s number total plan′ = number ≡ 0 → priced s (take (19 + 2 * countField plan′) plan′) ≡ accepted total
+
+-- the printed total is within (5T² + 3T)/4 units of the returned chain's exact value, both ways
+abbrev pub PrintedNear : (s : List ℕ) (number total : ℕ) (plan′ : List ℕ) → Type 0
+PrintedNear s number total plan′ = number ≡ 0 → TotalNear (sheetOf s) (decode plan′) total
+
+-- no feasible chain's exact value is more than (5T² + 3T)/2 units below the returned one's: both sides times 4 and the common denominator
+abbrev pub ExactlyNotFar : (s : List ℕ) (number : ℕ) (plan′ : List ℕ) → Type 0
+ExactlyNotFar s number plan′ =
+    let p = sheetOf s in
+    number ≡ 0
+    → (c : Chain) → Feasible p c
+    → 4 * exactValue p (decode plan′) ≤ 4 * exactValue p c + 2 * (allowance (p .horizon) * denominator p)
+
+-- A refused call leaves the plan buffer untouched; refusals 1 to 10 leave the words too. An accepted call leaves the bytes behind the plan.
+pub record Leaves (number : ℕ) (plan words plan′ words′ : List ℕ) : Type 0 where
+  pub planLeft : (number ≡ 0 → ⊥) → plan′ ≡ plan
+  pub wordsLeft : 1 ≤ number → number ≤ 10 → words′ ≡ words
+  pub behind : number ≡ 0 → (k : ℕ) → 19 + 2 * countField plan′ ≤ k → getD plan′ k 0 ≡ getD plan k 0
+  pub lengths : (length plan′ ≡ length plan) × (length words′ ≡ length words)

@@ -1,0 +1,64 @@
+-- What is read from the front of a buffer when a plan was written there: its bytes (`written-plan`), and its count, its total and its chain
+-- (`written-count`, `written-total`, `written-decode`). Numbers depend only on the bytes in which they stand. Assumes nothing.
+use Prim.Native.Nat.{ℕ, zero, suc, _+_, _*_, _≤_, _<_}
+use mathlib.Core.Path.{_≡_, refl, ap, sym, _∙_}
+use mathlib.Core.List.{List, _∷_}
+use native.Mathlib.Omega.{arith}
+use lib.ListN.{length, take}
+use lib.Seq.{sets, getD-take}
+use Rattle.sheet.specs.Layout.{u16At}
+use Rattle.chain.specs.Chain.{Chain}
+use Rattle.chain.specs.PlanBytes.{numberAt, encode, totalField, countField, endsAt, decode}
+use Rattle.chain.proofs.PlanBytesLaws.{u16At-number, encode-length, totalField-encode, countField-encode, decode-encode, Narrow}
+use Rattle.writing.proofs.WriteLaws.{written-first}
+
+-- the first n bytes
+module _ (s : List ℕ) (n : ℕ) where
+  number-take : (at count : ℕ) → at + count ≤ n → numberAt (take n s) at count ≡ numberAt s at count
+  unfolding numberAt
+  number-take at zero h = refl
+  number-take at (suc count) h = rw (getD-take n s at 0 (omega arith), number-take (at + 1) count (omega arith))
+
+  u16-take : (at : ℕ) → at + 2 ≤ n → u16At (take n s) at ≡ u16At s at
+  u16-take at h = u16At-number (take n s) at ∙ number-take at 2 h ∙ sym (u16At-number s at)
+
+  ends-take : (at count : ℕ) → at + 2 * count ≤ n → endsAt (take n s) at count ≡ endsAt s at count
+  unfolding endsAt
+  ends-take at zero h = refl
+  ends-take at (suc count) h = rw (u16-take at (omega arith), ends-take (at + 2) count (omega arith))
+
+  decode-take : 19 + 2 * countField s ≤ n → decode (take n s) ≡ decode s
+  unfolding decode
+  decode-take h =
+      let i = u16-take 13 (omega arith) in
+      let j = u16-take 15 (omega arith) in
+      let m = u16-take 17 (omega arith) in
+      let ends = ap (endsAt (take n s) 19) m ∙ ends-take 19 (countField s) h in
+      λ k. record { i = i k; j = j k; ends = ends k }
+
+-- a plan that was written to a buffer which is long enough
+module _ (plan : List ℕ) (total : ℕ) (c : Chain) (room : 19 + 2 * length (c .ends) ≤ length plan) where
+  abbrev after : List ℕ
+  after = sets plan 0 (encode total c)
+
+  written-first-bytes : take (19 + 2 * length (c .ends)) after ≡ encode total c
+  written-first-bytes =
+      let long = encode-length total c in
+      ap (λ (n : ℕ). take n after) (sym long) ∙ written-first plan (encode total c) (omega arith)
+
+  pub written-total : total < 18_446_744_073_709_551_616 → totalField after ≡ total
+  written-total fits =
+      sym (number-take after (19 + 2 * length (c .ends)) 5 8 (omega arith)) ∙ ap totalField written-first-bytes ∙ totalField-encode total c fits
+
+  module _ (narrow : Narrow c) where
+    pub written-count : countField after ≡ length (c .ends)
+    written-count =
+        sym (u16-take after (19 + 2 * length (c .ends)) 17 (omega arith)) ∙ ap countField written-first-bytes ∙ countField-encode total c narrow
+
+    pub written-plan : take (19 + 2 * countField after) after ≡ encode total c
+    written-plan = ap (λ (m : ℕ). take (19 + 2 * m) after) written-count ∙ written-first-bytes
+
+    pub written-decode : decode after ≡ c
+    written-decode =
+        let n = 19 + 2 * length (c .ends) in
+        sym (decode-take after n (omega (arith, written-count))) ∙ ap decode written-first-bytes ∙ decode-encode total c narrow

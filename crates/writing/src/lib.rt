@@ -1,0 +1,61 @@
+// The bytes of a plan are written, into the front of a lent buffer: document 01, 'Feasible chains', its last paragraph.
+// Nothing here is a public call: `write_plan` serves the crate above, which meets what it requires.
+
+ghost use mathlib.Core.Path.{_≡_};
+ghost use Prim.Native.Nat.{_+_, _*_, _≤_};
+ghost use lib.ListN.{length, take};
+ghost use lib.Seq.{sets};
+ghost use Rattle.chain.specs.Chain.{Chain};
+ghost use Rattle.chain.specs.PlanBytes.{bytes, header, endBytes, encode};
+
+// Writes a number in that many bytes, the lowest first, from a place on.
+fn put(plan: &mut [u8], start: usize, count: usize, number: u64)
+    requires { ⌜ start + count ≤ length (now plan) ⌝ }
+    ensures { λ _. ⌜ now (plan .exit) ≡ sets (now (plan .entry)) start (bytes count number) ⌝ }
+{
+    let mut at = start;
+    let mut left = count;
+    let mut rest = number;
+    while 0 < left {
+        plan[at] = (rest % 256) as u8;
+        rest = rest / 256;
+        at += 1;
+        left -= 1;
+    }
+}
+
+// Writes mark, version, total, i, j and the number of replacements.
+fn put_header(plan: &mut [u8], total: u64, i: u64, j: u64, count: u64)
+    requires { ⌜ 19 ≤ length (now plan) ⌝ }
+    ensures { λ _. ⌜ now (plan .exit) ≡ sets (now (plan .entry)) 0 (header total i j count) ⌝ }
+{
+    plan[0] = b'R';
+    plan[1] = b'C';
+    plan[2] = b'P';
+    put(plan, 3, 2, 1);
+    put(plan, 5, 8, total);
+    put(plan, 13, 2, i);
+    put(plan, 15, 2, j);
+    put(plan, 17, 2, count);
+}
+
+// Writes that many end years behind the header, two bytes each.
+fn put_ends(plan: &mut [u8], ends: &[u64], count: usize)
+    requires { ⌜ (count ≤ length (now ends)) × (19 + 2 * count ≤ length (now plan)) ⌝ }
+    ensures { λ _. ⌜ now (plan .exit) ≡ sets (now (plan .entry)) 19 (endBytes (take count (now (ends .entry)))) ⌝ }
+{
+    let mut k: usize = 0;
+    while k < count {
+        put(plan, 19 + 2 * k, 2, ends[k]);
+        k += 1;
+    }
+}
+
+// Writes the plan of a total and a chain, whose end years are the first of those lent; the bytes behind the plan are kept.
+pub fn write_plan(plan: &mut [u8], total: u64, i: u64, j: u64, ends: &[u64], count: usize)
+    requires { ⌜ (count ≤ length (now ends)) × (19 + 2 * count ≤ length (now plan)) ⌝ }
+    ensures { λ _. ⌜ now (plan .exit) ≡ sets (now (plan .entry)) 0 (encode total (record { i = i; j = j; ends = take count (now (ends .entry)) })) ⌝ }
+{
+    put_header(plan, total, i, j, count as u64);
+    put_ends(plan, ends, count);
+}
