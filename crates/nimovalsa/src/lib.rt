@@ -15,6 +15,9 @@ ghost use Rattle.costing.specs.Error.{WithinAllowance};
 ghost use Rattle.chain.specs.PlanBytes.{decode};
 ghost use Rattle.chain.specs.Pricing.{priced, PricedAt};
 ghost use Rattle.chain.specs.Error.{TotalNear};
+ghost use Rattle.planner.specs.Planning.{planAnswer, planAfter, wordsAfter};
+ghost use Rattle.planner.specs.Promises.{RefusedTen, RefusedEleven, RefusedTwelve, AcceptedWhen, AmpleAccepted};
+ghost use Rattle.planner.specs.Promises.{ReturnsChosen, LendsCheapest, PricedAsPrinted, PrintedNear, ExactlyNotFar, Leaves};
 ghost use Rattle.nimovalsa.specs.Packed.{totalIn, numberIn, Returns};
 use checking::Answer;
 
@@ -53,4 +56,25 @@ pub extern "C" fn nimovalsa_price(sheet: &[u8], plan: &[u8]) -> u64
     ensures near { λ r. ⌜ (numberIn r ≡ 0 → TotalNear (sheetOf (now (sheet .entry))) (decode (now (plan .entry))) (totalIn r)) ⌝ }
 {
     pack(chain::price(sheet, plan))
+}
+
+// Planning: the rounded total of the chosen chain in units, and the number and the option of the refusal table; the plan and the words are written.
+#[no_mangle]
+pub extern "C" fn nimovalsa_plan(sheet: &[u8], plan: &mut [u8], words: &mut [u64]) -> u64
+    ensures answer { λ r. ⌜ Returns r (planAnswer (now (sheet .entry)) (now (plan .entry)) (now (words .entry))) ⌝ }
+    ensures plan { λ _. ⌜ now (plan .exit) ≡ planAfter (now (sheet .entry)) (now (plan .entry)) (now (words .entry)) ⌝ }
+    ensures words { λ _. ⌜ now (words .exit) ≡ wordsAfter (now (sheet .entry)) (now (words .entry)) ⌝ }
+    ensures ten { λ r. ⌜ RefusedTen (now (sheet .entry)) (now (words .entry)) (numberIn r) ⌝ }
+    ensures eleven { λ r. ⌜ RefusedEleven (now (sheet .entry)) (now (words .entry)) (numberIn r) ⌝ }
+    ensures twelve { λ r. ⌜ RefusedTwelve (now (sheet .entry)) (now (plan .entry)) (now (words .entry)) (numberIn r) ⌝ }
+    ensures accepted { λ r. ⌜ AcceptedWhen (now (sheet .entry)) (now (plan .entry)) (now (words .entry)) (numberIn r) ⌝ }
+    ensures ample { λ r. ⌜ AmpleAccepted (now (sheet .entry)) (now (plan .entry)) (now (words .entry)) (numberIn r) ⌝ }
+    ensures chosen { λ r. ⌜ ReturnsChosen (now (sheet .entry)) (numberIn r) (totalIn r) (now (plan .exit)) ⌝ }
+    ensures cheapest { λ _. ⌜ LendsCheapest (now (sheet .entry)) (now (words .entry)) (now (words .exit)) ⌝ }
+    ensures priced { λ r. ⌜ PricedAsPrinted (now (sheet .entry)) (numberIn r) (totalIn r) (now (plan .exit)) ⌝ }
+    ensures near { λ r. ⌜ PrintedNear (now (sheet .entry)) (numberIn r) (totalIn r) (now (plan .exit)) ⌝ }
+    ensures far { λ r. ⌜ ExactlyNotFar (now (sheet .entry)) (numberIn r) (now (plan .exit)) ⌝ }
+    ensures left { λ r. ⌜ Leaves (numberIn r) (now (plan .entry)) (now (words .entry)) (now (plan .exit)) (now (words .exit)) ⌝ }
+{
+    pack(planner::plan(sheet, plan, words))
 }

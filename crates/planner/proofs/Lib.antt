@@ -3,9 +3,11 @@
 --     FoundLaws: what the code has found is the planned chain
 --     WayLaws: the ways in which planning ends, and which number comes from which
 --     DoneLaws: what is read from the buffer when a plan was written; what each way leaves
+--     RangeLaws: the range of what is answered
 --     Demands: the promises, in the mission's order
 pub mod PlanningLaws
 pub mod FoundLaws
 pub mod WayLaws
 pub mod DoneLaws
+pub mod RangeLaws
 pub mod Demands
