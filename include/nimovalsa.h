@@ -173,6 +173,55 @@ uint64_t nimovalsa_cost(const uint8_t *sheet, size_t length, uint64_t option,
 uint64_t nimovalsa_price(const uint8_t *sheet, size_t sheet_length,
                          const uint8_t *plan, size_t plan_length);
 
+/*
+ * Plans: writes the plan of a feasible chain of least total, which is also the
+ * total of the answer, in units. nimovalsa_price says which chains are feasible
+ * and what their total is. Of chains with equal least totals the one with the
+ * largest i is taken; of those the one with the largest j; of those the one
+ * that has the later end year at the first replacement where they differ.
+ *
+ * The number is that of the first fault, or 0 if there is none. Faults are
+ * looked for in the order 1 to 9, as nimovalsa_check answers them, then:
+ *
+ *  10  words_count below NIMOVALSA_PLAN_WORDS
+ *  11  no chain is feasible
+ *  12  plan_length below 19 + 2m, m being that of the chain chosen
+ *
+ * Buffers: the sheet is only read. What is written depends on the number:
+ *
+ *   1 to 10   nothing
+ *   11, 12    the words
+ *   0         the words, and the first 19 + 2m bytes of the plan
+ *
+ * The words are written for each year y from 0 to T:
+ *
+ *   words[y]        the least total of replacements alone from year y to T;
+ *                   0 for y = T; 2^64 - 1 if no replacements lead to T
+ *   words[301 + y]  the end year of the first of those replacements, chosen
+ *                   as above; 0 for y = T and if there are none
+ *
+ * All other words, and the plan's bytes behind the first 19 + 2m, keep their
+ * content. A plan_length of 19 + 2T is enough for every chain. What the buffers
+ * hold before the call does not matter, and nothing is kept between calls.
+ *
+ * Duties of the caller, which the call cannot check:
+ *   - sheet points to sheet_length readable bytes and plan to plan_length
+ *     writable ones, each at any alignment; words points to words_count
+ *     writable words, at the alignment of uint64_t. With length or count 0 it
+ *     may be any pointer, also NULL.
+ *   - neither plan nor words overlaps another of the three.
+ *   - nothing else reads or changes plan and words during the call, and nothing
+ *     changes the sheet.
+ *   - NIMOVALSA_PLAN_STACK bytes of stack are free. tests/c measures what the
+ *     call uses and fails above the figure here. It is not proved.
+ */
+#define NIMOVALSA_PLAN_WORDS 602
+#define NIMOVALSA_PLAN_STACK 65536
+
+uint64_t nimovalsa_plan(const uint8_t *sheet, size_t sheet_length,
+                        uint8_t *plan, size_t plan_length, uint64_t *words,
+                        size_t words_count);
+
 #ifdef __cplusplus
 }
 #endif

@@ -18,6 +18,9 @@ enum {
     /* answers without a total */
     ACCEPTED = 0 * 4 + NO_OPTION,
     REFUSED_LENGTH = 1 * 4 + NO_OPTION,
+    REFUSED_WORDS = 10 * 4 + NO_OPTION,
+    REFUSED_NO_CHAIN = 11 * 4 + NO_OPTION,
+    REFUSED_SHORT_PLAN = 12 * 4 + NO_OPTION,
     REFUSED_ARC = 13 * 4 + NO_OPTION,
     REFUSED_PLAN = 14 * 4 + NO_OPTION,
 
@@ -40,6 +43,17 @@ void name_case(const char *format, ...) __attribute__((format(printf, 1, 2)));
 
 void stop_unless(int done, const char *what);
 
+/* ---- harness.c: memory ---- */
+
+/* Memory between two unreadable pages. */
+struct room {
+    unsigned char *begin;
+    size_t bytes; /* a multiple of the page */
+};
+
+/* A room of at least so many bytes that may be read and written. */
+struct room make_open_room(size_t least);
+
 /* ---- harness.c: calls ---- */
 
 /* What a call reads; calls that read no plan get an empty one. */
@@ -61,8 +75,15 @@ extern unsigned long calls;
 /* Before every other call. */
 void start_harness(void);
 
-/* The answer with sheet and plan each ending where an unreadable page begins,
- * and with each beginning where an unreadable page ends. */
+/* The answer with sheet and plan ending where an unreadable page begins. */
+void expect_answer_at_end(struct subject *subject, struct input input,
+                          uint64_t answer);
+
+/* The answer with both beginning where an unreadable page ends. */
+void expect_answer_at_start(struct subject *subject, struct input input,
+                            uint64_t answer);
+
+/* Both of these. */
 void expect_answer(struct subject *subject, struct input input,
                    uint64_t answer);
 
@@ -125,22 +146,65 @@ void put_overhaul(uint8_t *record, unsigned entry, int64_t age, int64_t amount);
 typedef void make_sheet(uint8_t *sheet);
 
 make_sheet make_middle_sheet, make_limit_sheet, make_empty_sheet,
-    make_paper_sheet;
+    make_case_9_sheet, make_case_10_sheet, make_case_11_sheet,
+    make_case_12_sheet, make_six_year_sheet, make_three_year_sheet,
+    make_dear_sheet, make_paper_sheet;
+
+/* ---- lending.c: planning in watched buffers ---- */
+
+enum { MOST_YEARS = 300, LONGEST_LENT_PLAN = 1024, MOST_LENT_WORDS = 1024 };
+
+/* The words of the years from 0 to a sheet's horizon. */
+struct tails {
+    unsigned horizon;
+    uint64_t totals[MOST_YEARS + 1], first_ends[MOST_YEARS + 1];
+};
+
+/* What a planning call answers and writes. */
+struct outcome {
+    uint64_t answer;
+    const struct tails *tails; /* NULL if the words are left */
+    struct bytes plan;         /* empty if the plan is left */
+};
+
+/* How long the buffers are that are lent. */
+struct lent {
+    size_t plan_length, words_count;
+};
+
+/* Before every other call of lending.c. */
+void start_lending(void);
+
+/* The outcome with sheet, plan and words each ending where an unreadable page
+ * begins, and with each beginning where an unreadable page ends. */
+void expect_outcome(struct bytes sheet, struct lent lent,
+                    struct outcome outcome);
+
+/* The outcome with sheet and plan at these distances from their page. */
+void expect_outcome_at(struct bytes sheet, struct lent lent,
+                       size_t sheet_offset, size_t plan_offset,
+                       struct outcome outcome);
+
+/* The outcome with the sheet where it is, and NULL for buffers of length 0. */
+void expect_outcome_with_null(struct bytes sheet, struct lent lent,
+                              struct outcome outcome);
 
 /* ---- the tests of each call ---- */
 
-extern struct subject checking, costing, pricing;
+extern struct subject checking, costing, pricing, planning;
 
 void test_checking(void);
 void test_costing(void);
 void test_chains(void);  /* pricing, by the plan's chain */
 void test_pricing(void); /* pricing, by the plan's bytes */
+void test_planning(void);
 
-/* On a sheet where checking answers this, costing and pricing answer the same
- * if it is a refusal, whatever the arc or plan. On an accepted sheet the empty
- * arc costs 0; a faulty arc or plan is refused. */
+/* On a sheet where checking answers this, the other calls answer the same if
+ * it is a refusal, whatever the arc, plan or buffers. On an accepted sheet the
+ * empty arc costs 0; a faulty arc or plan, or too few words, are refused. */
 void expect_costing(struct bytes sheet, uint64_t answer);
 void expect_pricing(struct bytes sheet, uint64_t answer);
+void expect_planning(struct bytes sheet, uint64_t answer);
 
 /* ---- chains.c ---- */
 

@@ -24,6 +24,7 @@ static void expect(const uint8_t *sheet, size_t length, unsigned number,
     expect_answer(&checking, input, answer);
     expect_costing(input.sheet, answer);
     expect_pricing(input.sheet, answer);
+    expect_planning(input.sheet, answer);
 }
 
 /* The number that is expected after one field of a good sheet got a value. */

@@ -1,8 +1,9 @@
 /*
- * Every sheet and plan is passed twice: once ending where an unreadable page
- * begins, once beginning where an unreadable page ends. Its own pages are
- * read-only during the call. A read outside it or a write anywhere near it is
- * then a memory fault, which is reported under the name of the case.
+ * Every sheet, and every plan that is read, is passed twice: once ending where
+ * an unreadable page begins, once beginning where an unreadable page ends. Its
+ * own pages are read-only during the call. A read outside it or a write
+ * anywhere near it is then a memory fault, which is reported under the name of
+ * the case. planning.c says how the buffers are watched that are written.
  *
  * Every call runs on a stack that was filled with one byte value. The lowest
  * byte that changed tells how much stack the call used.
@@ -18,7 +19,8 @@
 #include <ucontext.h>
 #include <unistd.h>
 
-enum { STACK_BYTES = 64 * 1024 };
+/* More than the header names for any call. */
+enum { STACK_BYTES = 2 * 64 * 1024 };
 
 /* ---- failure ---- */
 
@@ -34,8 +36,8 @@ void name_case(const char *format, ...)
     vsnprintf(case_name, sizeof case_name, format, words);
     va_end(words);
     snprintf(fault_line, sizeof fault_line,
-             "c boundary: %s: memory fault: a read outside the sheet "
-             "or plan, a write, or too much stack\n",
+             "c boundary: %s: memory fault: an access outside the buffers, "
+             "a write to one that is only read, or too much stack\n",
              case_name);
 }
 
@@ -70,11 +72,6 @@ static void catch_faults(void)
 
 /* ---- memory between two unreadable pages ---- */
 
-struct room {
-    unsigned char *begin;
-    size_t bytes; /* a multiple of the page */
-};
-
 static struct room make_room(size_t least)
 {
     size_t page = (size_t)sysconf(_SC_PAGESIZE);
@@ -92,6 +89,14 @@ static struct room make_room(size_t least)
 static void allow(struct room room, int access)
 {
     stop_unless(mprotect(room.begin, room.bytes, access) == 0, "mprotect");
+}
+
+struct room make_open_room(size_t least)
+{
+    struct room room = make_room(least);
+
+    allow(room, PROT_READ | PROT_WRITE);
+    return room;
 }
 
 /* ---- a call on a painted stack ---- */
@@ -217,14 +222,26 @@ void expect_answer_at(struct subject *subject, struct input input,
                      PAINT_AT_START, answer);
 }
 
-void expect_answer(struct subject *subject, struct input input, uint64_t answer)
+void expect_answer_at_end(struct subject *subject, struct input input,
+                          uint64_t answer)
 {
     size_t sheet_offset = sheet_room.bytes - input.sheet.length;
     size_t plan_offset = plan_room.bytes - input.plan.length;
 
     call_and_compare(subject, placed(input, sheet_offset, plan_offset),
                      PAINT_AT_END, answer);
-    call_and_compare(subject, placed(input, 0, 0), PAINT_AT_START, answer);
+}
+
+void expect_answer_at_start(struct subject *subject, struct input input,
+                            uint64_t answer)
+{
+    expect_answer_at(subject, input, 0, 0, answer);
+}
+
+void expect_answer(struct subject *subject, struct input input, uint64_t answer)
+{
+    expect_answer_at_end(subject, input, answer);
+    expect_answer_at_start(subject, input, answer);
 }
 
 void expect_answer_here(struct subject *subject, struct input input,
@@ -249,7 +266,6 @@ void start_harness(void)
     catch_faults();
     sheet_room = make_room(LONGEST_SHEET);
     plan_room = make_room(LONGEST_PLAN);
-    stack = make_room(STACK_BYTES);
-    allow(stack, PROT_READ | PROT_WRITE);
+    stack = make_open_room(STACK_BYTES);
     measure_no_work();
 }

@@ -96,6 +96,95 @@ void make_empty_sheet(uint8_t *sheet)
     put_head(sheet, 1, 0);
 }
 
+/* Cases 9 and 10 of document 01: only replace is offered, at no cost. */
+void make_case_9_sheet(uint8_t *sheet)
+{
+    put_head(sheet, 5, 0);
+    put_lives(record_of(sheet, 2), 3, 4);
+}
+
+void make_case_10_sheet(uint8_t *sheet)
+{
+    make_case_9_sheet(sheet);
+    put16(sheet + HORIZON, 7);
+}
+
+/* Case 11: only replace is offered. */
+void make_case_11_sheet(uint8_t *sheet)
+{
+    uint8_t *record = record_of(sheet, 2);
+
+    put_head(sheet, 3, 0);
+    put_lives(record, 1, 2);
+    put32(record + MAINTENANCE, 1);
+}
+
+/* Case 12: only replace is offered. */
+void make_case_12_sheet(uint8_t *sheet)
+{
+    uint8_t *record = record_of(sheet, 2);
+
+    put_head(sheet, 4, 0);
+    put_lives(record, 1, 3);
+    put32(record + INVESTMENT, 10);
+    put32(record + MAINTENANCE, 1);
+    put(record + OVERHAUL_COUNT, 1, 1);
+    put_overhaul(record, 0, 2, 15);
+}
+
+/* Every option is offered, and every payment has digits of its own. Some
+ * lose a tenth of their value each year; nothing is rounded. */
+static void make_digits_sheet(uint8_t *sheet, int64_t horizon)
+{
+    uint8_t *maintain = record_of(sheet, 0);
+    uint8_t *renovate = record_of(sheet, 1);
+    uint8_t *replace = record_of(sheet, 2);
+
+    put_head(sheet, horizon, 0);
+    put_lives(maintain, 1, 3);
+    put32(maintain + INVESTMENT, 1);
+    put32(maintain + MAINTENANCE, 10);
+    put_lives(renovate, 1, 2);
+    put32(renovate + INVESTMENT, 100);
+    put32(renovate + INVESTMENT_INFLATION, -100000);
+    put32(renovate + ELECTRICITY, 1000);
+    put_lives(replace, 2, 3);
+    put32(replace + INVESTMENT, 1000000);
+    put32(replace + INVESTMENT_INFLATION, -100000);
+    put32(replace + MAINTENANCE, 10000);
+}
+
+void make_six_year_sheet(uint8_t *sheet)
+{
+    make_digits_sheet(sheet, 6);
+}
+
+void make_three_year_sheet(uint8_t *sheet)
+{
+    make_digits_sheet(sheet, 3);
+}
+
+/* Amounts 10^9 whose growth is the discount: each payment is 10^13 units in
+ * every year. Lives 1 to 120, T 300, overhauls at ages 1 to 8. */
+void make_dear_sheet(uint8_t *sheet)
+{
+    static const unsigned inflations[] = {
+        INVESTMENT_INFLATION, MAINTENANCE_INFLATION, ELECTRICITY_INFLATION,
+        OVERHAUL_INFLATION};
+
+    make_limit_sheet(sheet);
+    for (unsigned option = 0; option < OPTIONS; option++) {
+        uint8_t *record = record_of(sheet, option);
+
+        for (size_t i = 0; i < COUNT(inflations); i++)
+            put32(record + inflations[i], 200000);
+        put32(record + MAINTENANCE_AGEING, 0);
+        put32(record + ELECTRICITY_AGEING, 0);
+        for (unsigned entry = 0; entry < 8; entry++)
+            put_overhaul(record, entry, 1 + entry, 1000000000);
+    }
+}
+
 /* What differs from option to option in the paper's Table 1. */
 struct figures {
     int64_t longest, investment, maintenance, ageing, electricity;

@@ -4,12 +4,13 @@ use crate::answer::described;
 use crate::compare::possible_answers;
 use crate::damaged::random_sheet;
 use crate::library;
+use crate::parts::Parts;
 use crate::plan::{read, written, Chain, Missing};
 use crate::plans::*;
 use crate::price::{answer, price, Fault, Refusal};
 use crate::random::Random;
 use crate::report::{difference, hex, Tally};
-use crate::sheet::{of_option, unsigned, HORIZON, LONGEST};
+use crate::sheet::{unsigned, HORIZON};
 use crate::sheets::{chained_sheet, corner_sheet, long_sheet, small_sheet};
 
 /// Every kind of outcome must occur this often, or the plans test too little.
@@ -26,13 +27,6 @@ const DAMAGED_SHEETS: usize = 5_000;
 /// Of a plan's bytes, a difference shows this many.
 const SHOWN_BYTES: usize = 640;
 
-/// What a feasible chain has of an option that may be empty.
-#[derive(Clone, Copy, PartialEq, Eq, PartialOrd, Ord, Debug)]
-enum Part {
-    Kept,
-    Empty { offered: bool },
-}
-
 /// The outcomes that are told apart when they are counted.
 #[derive(Clone, Copy, PartialEq, Eq, PartialOrd, Ord)]
 enum Kind {
@@ -41,29 +35,9 @@ enum Kind {
     /// The only fault of the plan.
     RefusedPlan(Fault),
     SeveralFaults,
-    /// How many replacements there are: none, one, or more.
-    Priced {
-        maintain: Part,
-        renovate: Part,
-        replacements: usize,
-    },
+    Priced(Parts),
     /// As well as the kind above.
     PricedTo300,
-}
-
-const PARTS: [Part; 3] = [
-    Part::Kept,
-    Part::Empty { offered: false },
-    Part::Empty { offered: true },
-];
-
-fn part(sheet: &[u8], option: usize, length: i64) -> Part {
-    match length {
-        0 => Part::Empty {
-            offered: unsigned(sheet, of_option(option, LONGEST)) > 0,
-        },
-        _ => Part::Kept,
-    }
 }
 
 fn all_faults() -> Vec<Fault> {
@@ -87,25 +61,6 @@ fn all_faults() -> Vec<Fault> {
     list
 }
 
-/// Some year is at least 1, so something is kept.
-fn all_priced() -> impl Iterator<Item = Kind> {
-    let pairs = PARTS.map(|maintain| PARTS.map(|renovate| (maintain, renovate)));
-    let all = pairs
-        .into_iter()
-        .flatten()
-        .flat_map(|(maintain, renovate)| {
-            [0, 1, 2].map(|replacements| (maintain, renovate, replacements))
-        });
-    all.filter(|&(maintain, renovate, replacements)| {
-        replacements > 0 || maintain == Part::Kept || renovate == Part::Kept
-    })
-    .map(|(maintain, renovate, replacements)| Kind::Priced {
-        maintain,
-        renovate,
-        replacements,
-    })
-}
-
 impl Kind {
     fn of(sheet: &[u8], plan: &[u8], outcome: &Result<u64, Refusal>) -> Kind {
         match outcome {
@@ -114,15 +69,10 @@ impl Kind {
                 Some(&fault) if faults.len() == 1 => Kind::RefusedPlan(fault),
                 _ => Kind::SeveralFaults,
             },
-            Ok(_) => Kind::priced(sheet, &read(plan).expect("an accepted plan")),
-        }
-    }
-
-    fn priced(sheet: &[u8], chain: &Chain) -> Kind {
-        Kind::Priced {
-            maintain: part(sheet, 0, chain.i),
-            renovate: part(sheet, 1, chain.j - chain.i),
-            replacements: chain.ends.len().min(2),
+            Ok(_) => {
+                let chain = read(plan).expect("an accepted plan");
+                Kind::Priced(Parts::of(sheet, &chain))
+            }
         }
     }
 
@@ -132,7 +82,7 @@ impl Kind {
             .map(Kind::RefusedSheet)
             .chain(all_faults().into_iter().map(Kind::RefusedPlan))
             .chain([Kind::SeveralFaults])
-            .chain(all_priced())
+            .chain(Parts::all().map(Kind::Priced))
             .chain([Kind::PricedTo300])
     }
 
@@ -141,14 +91,7 @@ impl Kind {
             Kind::RefusedSheet(packed) => described(packed),
             Kind::RefusedPlan(fault) => format!("number 14 for {fault:?} alone"),
             Kind::SeveralFaults => "number 14 for several faults".into(),
-            Kind::Priced {
-                maintain,
-                renovate,
-                replacements,
-            } => {
-                let many = ["no", "one", "several"][replacements];
-                format!("maintain {maintain:?}, renovate {renovate:?}, {many} replacements,")
-            }
+            Kind::Priced(parts) => parts.described(),
             Kind::PricedTo300 => "a chain to year 300".into(),
         }
     }

@@ -1,5 +1,6 @@
 //! The cost of an arc as one would write it for speed: the yearly payments are carried from
-//! year to year, in u64. `peer time` measures the library against it.
+//! year to year, in u64. `peer time` measures the library against it, and the peer's planner
+//! uses its steps.
 
 use crate::answer::Answer;
 use crate::check::checked;
@@ -51,7 +52,7 @@ pub fn arc_cost(record: &Record, discount: u64, start: u64, length: u64) -> u64 
 }
 
 /// A yearly payment in service: its amount of the year it has reached, and its factors.
-struct Running {
+pub struct Running {
     amount: u64,
     ageing: u64,
     growth: u64,
@@ -59,18 +60,23 @@ struct Running {
 }
 
 impl Running {
-    fn at(flow: &Flow, discount: u64, start: u64) -> Running {
+    pub fn new(amount: u64, flow: &Flow, discount: u64) -> Running {
         Running {
-            amount: moved(flow.amount, flow.inflation, discount, start),
+            amount,
             ageing: factor(flow.ageing),
             growth: factor(flow.inflation),
             discount,
         }
     }
 
-    fn next_year(&mut self) -> u64 {
+    fn at(flow: &Flow, discount: u64, start: u64) -> Running {
+        let amount = moved(flow.amount, flow.inflation, discount, start);
+        Running::new(amount, flow, discount)
+    }
+
+    pub fn next_year(&mut self) -> u64 {
         let aged = nearest(self.amount * self.ageing, 1_000_000);
-        self.amount = nearest(aged * self.growth, self.discount);
+        self.amount = plain(aged, self.growth, self.discount);
         self.amount
     }
 }
@@ -79,8 +85,13 @@ impl Running {
 fn moved(amount: i64, inflation: i64, discount: u64, steps: u64) -> u64 {
     let growth = factor(inflation);
     (0..steps).fold(amount as u64 * 10_000, |running, _| {
-        nearest(running * growth, discount)
+        plain(running, growth, discount)
     })
+}
+
+/// An amount after one plain step.
+pub fn plain(amount: u64, growth: u64, discount: u64) -> u64 {
+    nearest(amount * growth, discount)
 }
 
 pub fn factor(rate: i64) -> u64 {

@@ -13,6 +13,14 @@ extern "C" {
         plan: *const u8,
         plan_length: usize,
     ) -> u64;
+    fn nimovalsa_plan(
+        sheet: *const u8,
+        sheet_length: usize,
+        plan: *mut u8,
+        plan_length: usize,
+        words: *mut u64,
+        words_count: usize,
+    ) -> u64;
 }
 
 pub fn check(sheet: &[u8]) -> u64 {
@@ -28,4 +36,18 @@ pub fn cost(sheet: &[u8], arc: Arc) -> u64 {
 pub fn price(sheet: &[u8], plan: &[u8]) -> u64 {
     // SAFETY: each pointer and length are those of one slice, and the call only reads both.
     unsafe { nimovalsa_price(sheet.as_ptr(), sheet.len(), plan.as_ptr(), plan.len()) }
+}
+
+pub fn plan(sheet: &[u8], plan: &mut [u8], words: &mut [u64]) -> u64 {
+    // SAFETY: as above, but plan and words are written; being borrowed so, they overlap nothing.
+    unsafe {
+        nimovalsa_plan(
+            sheet.as_ptr(),
+            sheet.len(),
+            plan.as_mut_ptr(),
+            plan.len(),
+            words.as_mut_ptr(),
+            words.len(),
+        )
+    }
 }

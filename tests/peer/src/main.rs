@@ -1,8 +1,9 @@
-//! Compares nimovalsa_check, nimovalsa_cost and nimovalsa_price of libnimovalsa.a with
-//! independent implementations of them on many sheets, arcs and plans, or times costing and
-//! pricing.
+//! Compares nimovalsa_check, nimovalsa_cost, nimovalsa_price and nimovalsa_plan of
+//! libnimovalsa.a with independent implementations of them on many sheets, arcs, plans and
+//! buffers, or times costing and pricing.
 //!
-//! Use: peer [SEED [COUNT]], or peer time. Equal arguments give equal sheets, arcs and plans.
+//! Use: peer [SEED [COUNT]], or peer time. Equal arguments give equal sheets, arcs, plans and
+//! buffers.
 //! COUNT is the number of sheets that are checked. They start as valid ones and then get values
 //! at, just below and just above the limits of the rules.
 //! Status: 0 if all answers agree and each possible answer was seen often enough, 1 if not,
@@ -10,18 +11,25 @@
 #![deny(unsafe_code)]
 
 mod answer;
+mod arc_costs;
 mod arcs;
+mod cases;
 mod chains;
 mod check;
 mod compare;
 mod compare_costs;
+mod compare_plans;
 mod compare_prices;
 mod cost;
 mod cost_fast;
 mod damaged;
 mod edits;
+mod lent;
 mod library;
+mod listing;
+mod parts;
 mod plan;
+mod planner;
 mod plans;
 mod price;
 mod price_fast;
@@ -34,6 +42,7 @@ mod valid;
 
 use compare::compare_all;
 use compare_costs::compare_costs;
+use compare_plans::compare_plans;
 use compare_prices::compare_prices;
 use std::env;
 use std::process::ExitCode;
@@ -85,6 +94,7 @@ fn perform(task: Task) -> Result<(), String> {
             println!("rust peer: {}", compare_all(seed, count)?);
             println!("rust peer: {}", compare_costs(seed)?);
             println!("rust peer: {}", compare_prices(seed)?);
+            println!("rust peer: {}", compare_plans(seed)?);
         }
         Task::Time => {
             for line in times()? {

@@ -127,6 +127,7 @@ fn total(sheet: &Sheet, chain: &Chain) -> u64 {
 #[cfg(test)]
 mod tests {
     use super::*;
+    use crate::cases::{case_11, case_12, paper_sheet};
     use crate::plan::written;
     use crate::sheet::*;
 
@@ -148,28 +149,6 @@ mod tests {
         for &(inner, value) in fields {
             write(sheet, of_option(option, inner), value);
         }
-    }
-
-    fn case_11() -> Vec<u8> {
-        let mut sheet = with_head(3, 0);
-        let fields = [(SHORTEST, 1), (LONGEST, 2), (MAINTENANCE, 1)];
-        with_fields(&mut sheet, 2, &fields);
-        sheet
-    }
-
-    fn case_12() -> Vec<u8> {
-        let mut sheet = with_head(4, 0);
-        let fields = [
-            (SHORTEST, 1),
-            (LONGEST, 3),
-            (INVESTMENT, 10),
-            (MAINTENANCE, 1),
-            (OVERHAUL_COUNT, 1),
-            (overhaul_age(0), 2),
-            (overhaul_amount(0), 15),
-        ];
-        with_fields(&mut sheet, 2, &fields);
-        sheet
     }
 
     // Every year of service costs 1.
@@ -287,30 +266,6 @@ mod tests {
         let outcome = price(&with_head(301, 0), &[]);
         assert_eq!(outcome, Err(Refusal::OfSheet(Answer::refused(3))));
         assert_eq!(answer(&outcome), Answer::refused(3));
-    }
-
-    /// The replace record of the paper's Table 1; the chain has no other arcs.
-    fn paper_sheet() -> Vec<u8> {
-        let mut sheet = with_head(300, 40_000);
-        let fields = [
-            (SHORTEST, 1),
-            (LONGEST, 60),
-            (INVESTMENT, 2_500_000),
-            (INVESTMENT_INFLATION, 10_300),
-            (MAINTENANCE, 10_000),
-            (MAINTENANCE_INFLATION, 8_500),
-            (MAINTENANCE_AGEING, 5_000),
-            (ELECTRICITY, 10_000),
-            (ELECTRICITY_INFLATION, 2_000),
-            (OVERHAUL_INFLATION, 10_300),
-            (OVERHAUL_COUNT, 3),
-        ];
-        with_fields(&mut sheet, 2, &fields);
-        for entry in 0..3 {
-            let age = (overhaul_age(entry), 15 + 15 * entry as i64);
-            with_fields(&mut sheet, 2, &[age, (overhaul_amount(entry), 150_000)]);
-        }
-        sheet
     }
 
     // Table 5, in whole euros: 3,237,632 + 547,643 + 93,695 + 16,152 + 2,798.

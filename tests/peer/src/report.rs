@@ -35,6 +35,10 @@ impl<Kind: Ord> Tally<Kind> {
         *self.seen.entry(kind).or_insert(0) += 1;
     }
 
+    pub fn seen(&self, kind: Kind) -> u64 {
+        self.seen.get(&kind).copied().unwrap_or(0)
+    }
+
     /// The line of a comparison without differences; an error if one of the kinds, each with its
     /// description, was seen fewer times than it must be.
     pub fn summary(
@@ -45,7 +49,7 @@ impl<Kind: Ord> Tally<Kind> {
     ) -> Result<String, String> {
         let mut least = u64::MAX;
         for (kind, described) in kinds {
-            let seen = self.seen.get(&kind).copied().unwrap_or(0);
+            let seen = self.seen(kind);
             if seen < needed {
                 return Err(format!(
                     "{described} seen {seen} times, fewer than {needed}"

@@ -1,4 +1,4 @@
-//! Valid sheets whose arcs are costed and whose chains are priced.
+//! Valid sheets whose arcs are costed, whose chains are priced, and on which chains are planned.
 
 use crate::random::Random;
 use crate::sheet::*;
@@ -7,6 +7,10 @@ use crate::valid::{shaped_sheet, valid_sheet, Shape};
 /// A horizon of up to 40 years, with lives and ages up to about that many.
 pub fn small_sheet(random: &mut Random) -> Vec<u8> {
     let horizon = random.within(1, 40);
+    sheet_up_to(random, horizon)
+}
+
+fn sheet_up_to(random: &mut Random, horizon: i64) -> Vec<u8> {
     let shape = Shape {
         draw: Random::near_an_end,
         longest_life: horizon + 1,
@@ -21,14 +25,28 @@ pub fn small_sheet(random: &mut Random) -> Vec<u8> {
 /// A small sheet with short lives, so that it has chains of many shapes.
 pub fn chained_sheet(random: &mut Random) -> Vec<u8> {
     let mut sheet = small_sheet(random);
+    shorten_lives(random, &mut sheet);
+    sheet
+}
+
+/// A horizon of up to 8 years: all its chains can be listed.
+pub fn brief_sheet(random: &mut Random) -> Vec<u8> {
+    let horizon = random.within(1, 8);
+    let mut sheet = sheet_up_to(random, horizon);
+    if random.below(2) == 0 {
+        shorten_lives(random, &mut sheet);
+    }
+    sheet
+}
+
+fn shorten_lives(random: &mut Random, sheet: &mut [u8]) {
     for option in 0..OPTIONS {
         let shortest = random.within(1, 4);
         let longest = shortest + random.within(0, 6);
         let offered = i64::from(random.below(4) > 0);
-        write(&mut sheet, of_option(option, SHORTEST), offered * shortest);
-        write(&mut sheet, of_option(option, LONGEST), offered * longest);
+        write(sheet, of_option(option, SHORTEST), offered * shortest);
+        write(sheet, of_option(option, LONGEST), offered * longest);
     }
-    sheet
 }
 
 /// A horizon of 120 to 300 years.
@@ -55,6 +73,82 @@ pub fn corner_sheet(random: &mut Random) -> Vec<u8> {
     sheet
 }
 
+/// Short lives up to year 300: hundreds of replacements.
+pub fn frequent_sheet(random: &mut Random) -> Vec<u8> {
+    let mut sheet = corner_sheet(random);
+    shorten_lives(random, &mut sheet);
+    sheet
+}
+
+const RATES: [Field; 6] = [
+    INVESTMENT_INFLATION,
+    MAINTENANCE_INFLATION,
+    MAINTENANCE_AGEING,
+    ELECTRICITY_INFLATION,
+    ELECTRICITY_AGEING,
+    OVERHAUL_INFLATION,
+];
+
+/// Gives the sheet other payments, so that many of its chains have equal totals. Horizon, lives
+/// and ages stay.
+pub fn make_ties(random: &mut Random, sheet: &mut [u8]) {
+    match random.below(5) {
+        0 => set_amounts(sheet, || 0),
+        1 => {
+            clear_rates(sheet);
+            set_amounts(sheet, || random.within(0, 2));
+        }
+        2 => {
+            clear_rates(sheet);
+            set_amounts(sheet, || 0);
+            charge_every_year(sheet, random.within(1, 1_000_000_000));
+        }
+        3 => share_payments(sheet),
+        _ => {
+            clear_rates(sheet);
+            share_payments(sheet);
+        }
+    }
+}
+
+fn clear_rates(sheet: &mut [u8]) {
+    write(sheet, RATE, 0);
+    for option in 0..OPTIONS {
+        for inner in RATES {
+            write(sheet, of_option(option, inner), 0);
+        }
+    }
+}
+
+fn set_amounts(sheet: &mut [u8], mut amount: impl FnMut() -> i64) {
+    for option in 0..OPTIONS {
+        let used = unsigned(sheet, of_option(option, OVERHAUL_COUNT)) as usize;
+        let overhauls = (0..used).map(overhaul_amount);
+        for inner in [INVESTMENT, MAINTENANCE, ELECTRICITY]
+            .into_iter()
+            .chain(overhauls)
+        {
+            write(sheet, of_option(option, inner), amount());
+        }
+    }
+}
+
+fn charge_every_year(sheet: &mut [u8], amount: i64) {
+    for option in 0..OPTIONS {
+        write(sheet, of_option(option, MAINTENANCE), amount);
+    }
+}
+
+/// Maintain and renovate get all of replace but its lives.
+fn share_payments(sheet: &mut [u8]) {
+    let from = of_option(2, INVESTMENT).at;
+    let payments = sheet[from..].to_vec();
+    for option in 0..2 {
+        let at = of_option(option, INVESTMENT).at;
+        sheet[at..at + payments.len()].copy_from_slice(&payments);
+    }
+}
+
 #[cfg(test)]
 mod tests {
     use super::*;
@@ -65,9 +159,20 @@ mod tests {
     #[test]
     fn sheets_pass() {
         let mut random = Random(8);
-        for make in [small_sheet, chained_sheet, long_sheet, corner_sheet] {
+        let all = [
+            small_sheet,
+            chained_sheet,
+            brief_sheet,
+            long_sheet,
+            corner_sheet,
+            frequent_sheet,
+        ];
+        for make in all {
             for _ in 0..1_000 {
-                assert_eq!(check(&make(&mut random)).number, 0);
+                let mut sheet = make(&mut random);
+                assert_eq!(check(&sheet).number, 0);
+                make_ties(&mut random, &mut sheet);
+                assert_eq!(check(&sheet).number, 0);
             }
         }
     }

@@ -1,0 +1,499 @@
+/*
+ * nimovalsa_plan: which chain is taken, which words are written, and in what
+ * order its refusals come, for buffers of every length.
+ */
+#include "boundary.h"
+
+#include <string.h>
+
+static uint8_t sheet[NIMOVALSA_SHEET_BYTES];
+static uint8_t plan[LONGEST_LENT_PLAN];
+static struct tails tails;
+
+static const struct bytes this_sheet = {sheet, sizeof sheet};
+
+/* ---- outcomes ---- */
+
+static struct outcome left(uint64_t answer)
+{
+    return (struct outcome){answer, NULL, {NULL, 0}};
+}
+
+static struct outcome words_written(uint64_t answer)
+{
+    return (struct outcome){answer, &tails, {NULL, 0}};
+}
+
+static struct outcome all_written(struct bytes whole, uint64_t total)
+{
+    put(plan + PLAN_TOTAL, 8, (int64_t)total);
+    return (struct outcome){PRICED(total), &tails, whole};
+}
+
+/* Takes a first replacement from a year to an end if none was cheaper. */
+static void try_end(unsigned year, unsigned end)
+{
+    uint64_t cost = nimovalsa_cost(sheet, sizeof sheet, 2, year, end);
+    uint64_t total;
+
+    if (nimovalsa_number(cost) != 0 || tails.totals[end] == UINT64_MAX)
+        return;
+    total = nimovalsa_total(cost) + tails.totals[end];
+    if (total <= tails.totals[year]) {
+        tails.totals[year] = total;
+        tails.first_ends[year] = end;
+    }
+}
+
+/* The words of this sheet by their definition. The costs are those that
+ * nimovalsa_cost answers, which costing.c tests. */
+static void compute_tails(void)
+{
+    unsigned horizon = sheet[HORIZON] + 256u * sheet[HORIZON + 1];
+
+    tails.horizon = horizon;
+    tails.totals[horizon] = tails.first_ends[horizon] = 0;
+    for (unsigned year = horizon; year-- > 0;) {
+        tails.totals[year] = UINT64_MAX;
+        tails.first_ends[year] = 0;
+        for (unsigned end = year + 1; end <= horizon; end++)
+            try_end(year, end);
+    }
+}
+
+static void prepare(make_sheet *make)
+{
+    make(sheet);
+    compute_tails();
+}
+
+/* ---- on every sheet of the check ---- */
+
+void expect_planning(struct bytes on, uint64_t answer)
+{
+    uint64_t refused = answer == ACCEPTED ? REFUSED_WORDS : answer;
+
+    expect_outcome(on, (struct lent){0, 0}, left(refused));
+    expect_outcome(on, (struct lent){NIMOVALSA_PLAN_BYTES(300), 601},
+                   left(refused));
+    if (answer != ACCEPTED) {
+        expect_outcome(on, (struct lent){0, 602}, left(answer));
+        expect_outcome(on, (struct lent){NIMOVALSA_PLAN_BYTES(300), 602},
+                       left(answer));
+    }
+}
+
+/* ---- every length of the buffers ---- */
+
+static void test_plan_length(size_t length, struct outcome full)
+{
+    expect_outcome(this_sheet, (struct lent){length, NIMOVALSA_PLAN_WORDS},
+                   length < full.plan.length ? words_written(REFUSED_SHORT_PLAN)
+                                             : full);
+}
+
+/* The sheet's chain in every plan length up to three beyond its own, and in
+ * longer ones. */
+static void test_plan_lengths(const char *name, struct outcome full)
+{
+    static const size_t longer[] = {619, 620, LONGEST_LENT_PLAN};
+
+    for (size_t length = 0; length <= full.plan.length + 3; length++) {
+        name_case("%s, plan buffer of %zu bytes", name, length);
+        test_plan_length(length, full);
+    }
+    for (size_t n = 0; n < COUNT(longer); n++) {
+        name_case("%s, plan buffer of %zu bytes", name, longer[n]);
+        test_plan_length(longer[n], full);
+    }
+}
+
+/* Around the limit, with a plan buffer that is long enough and with none. */
+static void test_word_counts(const char *name, struct outcome full)
+{
+    static const size_t counts[] = {
+        0, 1, 300, 301, 302, 600, 601, 602, 603, 700, MOST_LENT_WORDS};
+
+    for (size_t n = 0; n < COUNT(counts); n++) {
+        int enough = counts[n] >= NIMOVALSA_PLAN_WORDS;
+
+        name_case("%s, %zu words", name, counts[n]);
+        expect_outcome(this_sheet, (struct lent){full.plan.length, counts[n]},
+                       enough ? full : left(REFUSED_WORDS));
+        expect_outcome(this_sheet, (struct lent){0, counts[n]},
+                       enough ? words_written(REFUSED_SHORT_PLAN)
+                              : left(REFUSED_WORDS));
+    }
+}
+
+/* ---- sheets with a chain ---- */
+
+/* All amounts 0: maintain for 1 to 3 years, renovate for 2, replace for 1 to
+ * 2, T 7. */
+static void make_free_sheet(uint8_t *at)
+{
+    put_head(at, 7, 0);
+    put_lives(record_of(at, 0), 1, 3);
+    put_lives(record_of(at, 1), 2, 2);
+    put_lives(record_of(at, 2), 1, 2);
+}
+
+static void make_short_maintain_sheet(uint8_t *at)
+{
+    make_free_sheet(at);
+    put_lives(record_of(at, 0), 1, 1);
+}
+
+static void make_dear_renovate_sheet(uint8_t *at)
+{
+    make_short_maintain_sheet(at);
+    put32(record_of(at, 1) + INVESTMENT, 1);
+}
+
+static void make_free_replace_sheet(uint8_t *at)
+{
+    make_dear_renovate_sheet(at);
+    put32(record_of(at, 0) + INVESTMENT, 1);
+}
+
+/* The first of ten years is maintained at 7, the rest renovated at 5. */
+static void make_renovated_sheet(uint8_t *at)
+{
+    put_head(at, 10, 0);
+    put_lives(record_of(at, 0), 1, 1);
+    put32(record_of(at, 0) + INVESTMENT, 7);
+    put_lives(record_of(at, 1), 9, 9);
+    put32(record_of(at, 1) + INVESTMENT, 5);
+}
+
+/* Ten years are 4 of maintain, at 9, and 6 of replace; or 1 of renovate, at 8,
+ * and 9 of replace, which is free. */
+static void make_either_sheet(uint8_t *at)
+{
+    put_head(at, 10, 0);
+    put_lives(record_of(at, 0), 4, 4);
+    put32(record_of(at, 0) + INVESTMENT, 9);
+    put_lives(record_of(at, 1), 1, 1);
+    put32(record_of(at, 1) + INVESTMENT, 8);
+    put_lives(record_of(at, 2), 3, 3);
+}
+
+/* Lives 1 to 3, T 7. A replacement costs 1,000 in year 0 and loses a tenth each
+ * year; keeping it for three years costs an overhaul of 500. Lives 3, 2 and 2
+ * cost 1,000 + 729 + 590.49 + 500; lives 3, 3 and 1 have two overhauls, and
+ * lives of at most 2 have four replacements. */
+static void make_unequal_lives_sheet(uint8_t *at)
+{
+    uint8_t *record = record_of(at, 2);
+
+    put_head(at, 7, 0);
+    put_lives(record, 1, 3);
+    put32(record + INVESTMENT, 1000);
+    put32(record + INVESTMENT_INFLATION, -100000);
+    put(record + OVERHAUL_COUNT, 1, 1);
+    put_overhaul(record, 0, 2, 500);
+}
+
+struct plan_case {
+    make_sheet *make;
+    const char *name;
+    struct chain chain;
+    uint64_t total;
+};
+
+/* Where totals tie, the chain is the one that document 01 takes. The totals of
+ * cases 10 to 12 and of the paper's case study (its Tables 5 and 6) are
+ * theirs. chains.c derives some of the others and the rest follow from the
+ * rules; none was taken from the library. */
+static const struct plan_case plan_cases[] = {
+    {make_case_10_sheet, "case 10", {0, 0, 2, {4, 7}}, 0},
+    {make_case_11_sheet, "case 11", {0, 0, 2, {2, 3}}, 30000},
+    {make_case_12_sheet, "case 12", {0, 0, 2, {2, 4}}, 240000},
+    {make_paper_sheet,
+     "paper",
+     {0, 0, 5, {60, 120, 180, 240, 300}},
+     38979204269},
+    {make_six_year_sheet, "six years", {3, 4, 1, {6}}, 6772039000},
+    {make_three_year_sheet, "three years", {3, 3, 0, {0}}, 310000},
+    {make_dear_sheet, "dear", {120, 240, 1, {300}}, 6270000000000000},
+    {make_middle_sheet, "middle", {20, 30, 0, {0}}, 198077540},
+    {make_limit_sheet,
+     "limit",
+     {2, 5, 5, {9, 17, 76, 188, 300}},
+     173714832053890},
+
+    {make_free_sheet, "free", {3, 5, 1, {7}}, 0},
+    {make_short_maintain_sheet, "short maintain", {1, 3, 2, {5, 7}}, 0},
+    {make_dear_renovate_sheet, "dear renovate", {1, 1, 3, {3, 5, 7}}, 0},
+    {make_free_replace_sheet, "free replace", {0, 0, 4, {2, 4, 6, 7}}, 0},
+    {make_renovated_sheet, "renovated", {1, 10, 0, {0}}, 120000},
+    {make_unequal_lives_sheet, "unequal lives", {0, 0, 3, {3, 5, 7}}, 28194900},
+    {make_either_sheet, "either", {0, 1, 3, {4, 7, 10}}, 80000},
+};
+
+/* Their places in the table. */
+enum { CASE_12 = 2, PAPER = 3, SIX_YEARS = 4 };
+
+static struct outcome outcome_of(const struct plan_case *of)
+{
+    prepare(of->make);
+    return all_written(put_plan(plan, &of->chain), of->total);
+}
+
+static void test_plan_cases(void)
+{
+    for (size_t n = 0; n < COUNT(plan_cases); n++) {
+        const struct plan_case *of = &plan_cases[n];
+        struct outcome full = outcome_of(of);
+
+        test_plan_lengths(of->name, full);
+        test_word_counts(of->name, full);
+        name_case("%s, the plan priced", of->name);
+        expect_answer(&pricing, (struct input){this_sheet, full.plan},
+                      full.answer);
+    }
+}
+
+/* T 300, a replacement every year: the longest plan. */
+static void make_yearly_sheet(uint8_t *at)
+{
+    put_head(at, 300, 0);
+    put_lives(record_of(at, 2), 1, 1);
+    put32(record_of(at, 2) + INVESTMENT, 3);
+}
+
+static void test_longest_plan(void)
+{
+    prepare(make_yearly_sheet);
+    test_plan_lengths("300 replacements",
+                      all_written(put_even_plan(plan, 1, 300), 9000000));
+}
+
+/* The dear sheet with a replacement every year. But for rounding, no total is
+ * larger. */
+static void make_largest_sheet(uint8_t *at)
+{
+    make_dear_sheet(at);
+    put_lives(record_of(at, 0), 0, 0);
+    put_lives(record_of(at, 1), 0, 0);
+    put_lives(record_of(at, 2), 1, 1);
+}
+
+static void test_largest_total(void)
+{
+    prepare(make_largest_sheet);
+    name_case("largest total");
+    expect_outcome(
+        this_sheet, (struct lent){NIMOVALSA_PLAN_BYTES(300), 602},
+        all_written(put_even_plan(plan, 1, 300), UINT64_C(9000000000000000)));
+}
+
+/* ---- sheets without a chain ---- */
+
+/* Maintain ends in year 4, and replace cannot fill the 3 years that are left;
+ * nor can it fill all 7. */
+static void make_gap_sheet(uint8_t *at)
+{
+    put_head(at, 7, 0);
+    put_lives(record_of(at, 0), 4, 4);
+    put_lives(record_of(at, 2), 2, 2);
+}
+
+/* The longest lives stop a year before T. */
+static void make_early_end_sheet(uint8_t *at)
+{
+    put_head(at, 241, 0);
+    put_lives(record_of(at, 0), 1, 120);
+    put_lives(record_of(at, 1), 1, 120);
+}
+
+static void make_even_lives_sheet(uint8_t *at)
+{
+    put_head(at, 299, 0);
+    put_lives(record_of(at, 2), 100, 100);
+}
+
+struct no_chain_case {
+    make_sheet *make;
+    const char *name;
+};
+
+static const struct no_chain_case no_chain_cases[] = {
+    {make_case_9_sheet, "case 9"},
+    {make_empty_sheet, "empty sheet"},
+    {make_gap_sheet, "gap"},
+    {make_early_end_sheet, "early end"},
+    {make_even_lives_sheet, "even lives"},
+};
+
+/* With any plan buffer, an empty one included: 11 comes before 12, and 10
+ * before both. */
+static void test_no_chain(void)
+{
+    static const size_t lengths[] = {0,  1,   18,  19,  20,
+                                     21, 618, 619, 620, LONGEST_LENT_PLAN};
+
+    for (size_t n = 0; n < COUNT(no_chain_cases); n++) {
+        prepare(no_chain_cases[n].make);
+        for (size_t k = 0; k < COUNT(lengths); k++) {
+            name_case("%s, plan buffer of %zu bytes", no_chain_cases[n].name,
+                      lengths[k]);
+            expect_outcome(this_sheet, (struct lent){lengths[k], 602},
+                           words_written(REFUSED_NO_CHAIN));
+            expect_outcome(this_sheet, (struct lent){lengths[k], 700},
+                           words_written(REFUSED_NO_CHAIN));
+            expect_outcome(this_sheet, (struct lent){lengths[k], 601},
+                           left(REFUSED_WORDS));
+        }
+    }
+}
+
+/* ---- the words ---- */
+
+/* By hand, without the help of costing. */
+static void test_words_of_case_9(void)
+{
+    static const struct tails by_hand = {
+        5,
+        {UINT64_MAX, 0, 0, UINT64_MAX, UINT64_MAX, 0},
+        {0, 5, 5, 0, 0, 0},
+    };
+
+    make_case_9_sheet(sheet);
+    name_case("words of case 9");
+    expect_outcome(this_sheet, (struct lent){19, 602},
+                   (struct outcome){REFUSED_NO_CHAIN, &by_hand, {NULL, 0}});
+}
+
+/* One year costs 11, two 12, three 28: from year 1, ends 2 and 4 cost what 3
+ * and 4 cost. */
+static void test_words_of_case_12(void)
+{
+    static const struct tails by_hand = {
+        4,
+        {240000, 230000, 120000, 110000, 0},
+        {2, 3, 4, 4, 0},
+    };
+    static const struct chain chain = {0, 0, 2, {2, 4}};
+    struct bytes whole = put_plan(plan, &chain);
+
+    make_case_12_sheet(sheet);
+    put(plan + PLAN_TOTAL, 8, 240000);
+    name_case("words of case 12");
+    expect_outcome(this_sheet, (struct lent){whole.length, 602},
+                   (struct outcome){PRICED(240000), &by_hand, whole});
+}
+
+/* Replace alone cannot fill any of the years; the chain has none. */
+static void test_words_without_replacements(void)
+{
+    static const struct tails by_hand = {
+        2, {UINT64_MAX, UINT64_MAX, 0}, {0, 0, 0}};
+    static const struct chain chain = {2, 2, 0, {0}};
+
+    put_head(sheet, 2, 0);
+    put_lives(record_of(sheet, 0), 2, 2);
+    name_case("words without replacements");
+    expect_outcome(
+        this_sheet, (struct lent){19, 602},
+        (struct outcome){ACCEPTED, &by_hand,
+                         all_written(put_plan(plan, &chain), 0).plan});
+}
+
+/* Every count of words up to three beyond the least that is accepted. */
+static void test_every_word_count(void)
+{
+    struct outcome full = outcome_of(&plan_cases[CASE_12]);
+
+    for (size_t count = 0; count <= NIMOVALSA_PLAN_WORDS + 3; count++) {
+        name_case("case 12, %zu words", count);
+        expect_outcome(this_sheet, (struct lent){full.plan.length, count},
+                       count < NIMOVALSA_PLAN_WORDS ? left(REFUSED_WORDS)
+                                                    : full);
+    }
+}
+
+/* ---- the memory ---- */
+
+static void test_null(void)
+{
+    struct bytes no_sheet = {NULL, 0};
+
+    prepare(make_case_12_sheet);
+    name_case("NULL with length 0 for sheet, plan and words");
+    expect_outcome_with_null(no_sheet, (struct lent){0, 0},
+                             left(REFUSED_LENGTH));
+    name_case("NULL with length 0 for the sheet");
+    expect_outcome_with_null(no_sheet, (struct lent){30, 602},
+                             left(REFUSED_LENGTH));
+    name_case("NULL with length 0 for plan and words");
+    expect_outcome_with_null(this_sheet, (struct lent){0, 0},
+                             left(REFUSED_WORDS));
+    name_case("NULL with length 0 for the words");
+    expect_outcome_with_null(this_sheet, (struct lent){30, 0},
+                             left(REFUSED_WORDS));
+    name_case("NULL with length 0 for the plan");
+    expect_outcome_with_null(this_sheet, (struct lent){0, 602},
+                             words_written(REFUSED_SHORT_PLAN));
+    prepare(make_case_9_sheet);
+    name_case("NULL with length 0 for the plan, no chain");
+    expect_outcome_with_null(this_sheet, (struct lent){0, 602},
+                             words_written(REFUSED_NO_CHAIN));
+}
+
+static void test_alignments(void)
+{
+    struct outcome full = outcome_of(&plan_cases[CASE_12]);
+    struct lent lent = {full.plan.length, NIMOVALSA_PLAN_WORDS};
+
+    for (size_t of_sheet = 0; of_sheet < 8; of_sheet++)
+        for (size_t of_plan = 0; of_plan < 8; of_plan++) {
+            name_case("planning, sheet at %zu, plan at %zu modulo 8", of_sheet,
+                      of_plan);
+            expect_outcome_at(this_sheet, lent, of_sheet, of_plan, full);
+        }
+}
+
+/* The sheet stands in memory that may be written. */
+static void test_sheet_unchanged(void)
+{
+    uint8_t before[sizeof sheet];
+    struct outcome full = outcome_of(&plan_cases[PAPER]);
+
+    name_case("sheet unchanged by planning");
+    memcpy(before, sheet, sizeof sheet);
+    expect_outcome_with_null(this_sheet, (struct lent){full.plan.length, 602},
+                             full);
+    stop_unless(memcmp(before, sheet, sizeof sheet) == 0, "comparison");
+}
+
+/* Calls leave nothing behind: two sheets in turn, each twice. */
+static void test_in_turn(void)
+{
+    static const unsigned of[] = {CASE_12, SIX_YEARS};
+
+    for (unsigned call = 0; call < 6; call++) {
+        struct outcome full = outcome_of(&plan_cases[of[call % 2]]);
+        struct lent lent = {full.plan.length, NIMOVALSA_PLAN_WORDS};
+
+        name_case("two sheets in turn, call %u", call);
+        expect_outcome(this_sheet, lent, full);
+        expect_outcome(this_sheet, lent, full);
+    }
+}
+
+void test_planning(void)
+{
+    test_plan_cases();
+    test_longest_plan();
+    test_largest_total();
+    test_no_chain();
+    test_words_of_case_9();
+    test_words_of_case_12();
+    test_words_without_replacements();
+    test_every_word_count();
+    test_null();
+    test_alignments();
+    test_sheet_unchanged();
+    test_in_turn();
+}

@@ -1,0 +1,126 @@
+//! What the arcs of an option cost, each made from the one that is a year shorter, so that all
+//! arcs of a horizon of 300 years are costed in little time.
+
+use crate::cost_fast::{factor, plain, Running};
+use crate::sheet::{Record, Sheet};
+
+/// The amounts of an option's payments after 0 plain steps, 1, and so on up to the horizon.
+pub struct ArcCosts<'a> {
+    record: &'a Record,
+    horizon: usize,
+    discount: u64,
+    investment: Vec<u64>,
+    maintenance: Vec<u64>,
+    electricity: Vec<u64>,
+    /// By the overhaul's age; the ages rise.
+    overhauls: Vec<(usize, Vec<u64>)>,
+}
+
+impl ArcCosts<'_> {
+    pub fn of(sheet: &Sheet, option: usize) -> ArcCosts<'_> {
+        let record = &sheet.records[option];
+        let horizon = sheet.horizon as usize;
+        let discount = factor(sheet.rate);
+        let moved = |amount, inflation| plain_steps(amount, inflation, discount, horizon);
+        let used = &record.overhauls[..record.overhaul_count as usize];
+        ArcCosts {
+            record,
+            horizon,
+            discount,
+            investment: moved(record.investment, record.investment_inflation),
+            maintenance: moved(record.maintenance.amount, record.maintenance.inflation),
+            electricity: moved(record.electricity.amount, record.electricity.inflation),
+            overhauls: used
+                .iter()
+                .map(|overhaul| {
+                    let amounts = moved(overhaul.amount, record.overhaul_inflation);
+                    (overhaul.age as usize, amounts)
+                })
+                .collect(),
+        }
+    }
+
+    /// End and cost of every arc of length 1 or more that is offered from this year, the
+    /// shortest first.
+    pub fn from(&self, start: usize) -> Vec<(usize, u64)> {
+        let record = self.record;
+        let lives = record.shortest.max(1) as usize..=record.longest as usize;
+        let most = (*lives.end()).min(self.horizon - start);
+        let mut maintenance =
+            Running::new(self.maintenance[start], &record.maintenance, self.discount);
+        let mut electricity =
+            Running::new(self.electricity[start], &record.electricity, self.discount);
+        let mut total = self.investment[start];
+        let mut list = Vec::new();
+        for length in 1..=most {
+            total += self.overhaul_at(start, length - 1);
+            total += maintenance.next_year() + electricity.next_year();
+            if lives.contains(&length) {
+                list.push((start + length, total));
+            }
+        }
+        list
+    }
+
+    fn overhaul_at(&self, start: usize, age: usize) -> u64 {
+        let due = self.overhauls.iter().find(|overhaul| overhaul.0 == age);
+        due.map_or(0, |(_, amounts)| amounts[start + age])
+    }
+}
+
+fn plain_steps(amount: i64, inflation: i64, discount: u64, steps: usize) -> Vec<u64> {
+    let growth = factor(inflation);
+    let first = amount as u64 * 10_000;
+    let next = |&running: &u64| Some(plain(running, growth, discount));
+    std::iter::successors(Some(first), next)
+        .take(steps + 1)
+        .collect()
+}
+
+#[cfg(test)]
+mod tests {
+    use super::*;
+    use crate::check::checked;
+    use crate::cost::{arc_cost, fault, Arc};
+    use crate::random::Random;
+    use crate::sheets::{corner_sheet, long_sheet, small_sheet};
+
+    /// The arcs from a year are those without fault, at the cost that is defined.
+    fn assert_as_defined(sheet: &Sheet, option: usize, start: usize) {
+        let defined: Vec<(usize, u64)> = (start + 1..=sheet.horizon as usize)
+            .map(|end| Arc {
+                option: option as u64,
+                start: start as u64,
+                end: end as u64,
+            })
+            .filter(|&arc| fault(sheet, arc).is_none())
+            .map(|arc| (arc.end as usize, arc_cost(sheet, arc)))
+            .collect();
+        assert_eq!(ArcCosts::of(sheet, option).from(start), defined);
+    }
+
+    #[test]
+    fn as_defined_on_small_sheets() {
+        let mut random = Random(17);
+        for _ in 0..40 {
+            let sheet = checked(&small_sheet(&mut random)).expect("a sheet");
+            assert_as_defined(&sheet, 0, 0);
+            for start in 0..=sheet.horizon as usize {
+                assert_as_defined(&sheet, 1, start);
+                assert_as_defined(&sheet, 2, start);
+            }
+        }
+    }
+
+    #[test]
+    fn as_defined_up_to_year_300() {
+        let mut random = Random(18);
+        for make in [corner_sheet, long_sheet] {
+            let sheet = checked(&make(&mut random)).expect("a sheet");
+            assert_as_defined(&sheet, 0, 0);
+            for start in [0, 1, 59, sheet.horizon as usize - 1] {
+                assert_as_defined(&sheet, 2, start);
+            }
+        }
+    }
+}

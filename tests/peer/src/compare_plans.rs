@@ -1,0 +1,372 @@
+//! The comparison of the library's planning with the independent one: the answer, and all that
+//! is in the buffers afterwards.
+
+use crate::answer::{described, Answer};
+use crate::cases::{case_10, case_11, case_12, case_9, paper_sheet};
+use crate::check::checked;
+use crate::compare::possible_answers;
+use crate::damaged::random_sheet;
+use crate::lent::Lent;
+use crate::library;
+use crate::listing::listed;
+use crate::parts::Parts;
+use crate::plan::{plan_bytes, written, HEAD_BYTES, TOTAL};
+use crate::planner::{planned, Planned};
+use crate::random::Random;
+use crate::report::{difference, hex, Tally};
+use crate::sheet::{unsigned, HORIZON};
+use crate::sheets::*;
+use std::collections::BTreeSet;
+
+/// Every kind of outcome must occur this often, or the sheets test too little.
+const LEAST_SEEN: u64 = 30;
+const WORDS: usize = 602;
+/// All chains are listed up to this horizon.
+const LISTED_HORIZON: i64 = 8;
+
+/// Of each kind of sheet: so many as they are, so many with ties.
+const BRIEF_SHEETS: [usize; 2] = [4_000, 2_500];
+const CHAINED_SHEETS: [usize; 2] = [2_000, 800];
+const SMALL_SHEETS: [usize; 2] = [800, 300];
+const LONG_SHEETS: [usize; 2] = [60, 30];
+const CORNER_SHEETS: [usize; 2] = [40, 30];
+const FREQUENT_SHEETS: [usize; 2] = [120, 80];
+/// This many get every plan length up to that of the longest plan, and every count of words.
+const SWEPT_SHEETS: usize = 12;
+/// This many, most of them refused, get a few buffers.
+const DAMAGED_SHEETS: usize = 5_000;
+
+/// The outcomes that are told apart when they are counted.
+#[derive(Clone, Copy, PartialEq, Eq, PartialOrd, Ord)]
+enum Kind {
+    /// Of a call: its number, or the packed answer if the sheet is refused.
+    RefusedSheet(u64),
+    TooFewWords,
+    NoChain,
+    ShortPlan,
+    Accepted,
+    /// Of an accepted call: the buffer is just long enough, or longer.
+    ExactPlan,
+    LongerPlan,
+
+    /// Of a sheet: what its least chain has.
+    Chain(Parts),
+    /// Of a sheet with T 300: there is a chain; there is none; there are ties.
+    ChainTo300,
+    NoChainTo300,
+    TiesTo300,
+    /// Of a sheet: another chain of least total has another i; the same i and another j; the
+    /// same i and j.
+    TieOfI,
+    TieOfJ,
+    TieOfEnds,
+    Ties,
+}
+
+/// Those that are not about a chain's parts or a refused sheet.
+const FURTHER_KINDS: [(Kind, &str); 13] = [
+    (Kind::TooFewWords, "number 10"),
+    (Kind::NoChain, "number 11"),
+    (Kind::ShortPlan, "number 12"),
+    (Kind::Accepted, "number 0"),
+    (Kind::ExactPlan, "a plan buffer of 19 + 2m bytes"),
+    (Kind::LongerPlan, "a longer plan buffer"),
+    (Kind::ChainTo300, "a chain to year 300"),
+    (Kind::NoChainTo300, "no chain to year 300"),
+    (Kind::TiesTo300, "ties of chains to year 300"),
+    (Kind::TieOfI, "a tie of i"),
+    (Kind::TieOfJ, "a tie of j"),
+    (Kind::TieOfEnds, "a tie of ends"),
+    (Kind::Ties, "a tie"),
+];
+
+fn all_kinds() -> impl Iterator<Item = (Kind, String)> {
+    let sheets = possible_answers().filter(|&packed| packed != 3);
+    let sheets = sheets.map(|packed| (Kind::RefusedSheet(packed), described(packed)));
+    let chains = Parts::all().map(|parts| (Kind::Chain(parts), parts.described()));
+    let further = FURTHER_KINDS.map(|(kind, name)| (kind, name.to_string()));
+    sheets.chain(chains).chain(further)
+}
+
+/// What planning is to do with its buffers.
+enum Outcome {
+    /// The sheet is refused.
+    Refused(Answer),
+    /// The sheet passes. Only calls with too few words are tried, so nothing was planned.
+    Passes,
+    Planned(Planned),
+}
+
+impl Outcome {
+    fn without_planning(sheet: &[u8]) -> Outcome {
+        match checked(sheet) {
+            Err(answer) => Outcome::Refused(answer),
+            Ok(_) => Outcome::Passes,
+        }
+    }
+
+    /// Changes the buffers as planning does; its answer and the kind of the call.
+    fn apply(&self, lent: &mut Lent) -> (Answer, Kind) {
+        let planned = match self {
+            Outcome::Refused(answer) => return (*answer, Kind::RefusedSheet(answer.packed())),
+            _ if lent.words_count() < WORDS => return (Answer::refused(10), Kind::TooFewWords),
+            Outcome::Passes => unreachable!("the words are too few"),
+            Outcome::Planned(planned) => planned,
+        };
+        lent.write_words(&planned.tails);
+        let Some(choice) = &planned.choice else {
+            return (Answer::refused(11), Kind::NoChain);
+        };
+        let plan = written(&choice.chain, choice.total);
+        if lent.plan_length() < plan.len() {
+            return (Answer::refused(12), Kind::ShortPlan);
+        }
+        lent.write_plan(&plan);
+        (Answer::accepted(choice.total), Kind::Accepted)
+    }
+
+    /// The bytes of the plan; those of its head if there is none.
+    fn plan_bytes(&self) -> usize {
+        match self {
+            Outcome::Planned(Planned {
+                choice: Some(choice),
+                ..
+            }) => plan_bytes(choice.chain.ends.len()),
+            _ => HEAD_BYTES,
+        }
+    }
+}
+
+/// The plan buffers of a sheet: empty, around the head, around the plan, of the longest plan
+/// that the horizon allows, and longer.
+fn plan_lengths(random: &mut Random, horizon: i64, own: usize) -> BTreeSet<usize> {
+    let longest = plan_bytes(horizon as usize);
+    let longer = longest + 1 + random.below(300);
+    let list = [0, 1, 18, 19, 20, own - 1, own, own + 1, longest, longer];
+    BTreeSet::from(list)
+}
+
+fn enough_words(random: &mut Random) -> usize {
+    [WORDS, WORDS + 1, 700][random.below(3)]
+}
+
+struct Comparison {
+    tally: Tally<Kind>,
+    sheets: u64,
+    random: Random,
+}
+
+impl Comparison {
+    /// Plans on a sheet that passes the check, with each method that there is, and counts it.
+    fn plan(&mut self, bytes: &[u8]) -> Result<Outcome, String> {
+        let sheet = checked(bytes).map_err(|_| format!("not a sheet: {}", hex(bytes)))?;
+        let planned = planned(&sheet);
+        if sheet.horizon <= LISTED_HORIZON && planned != listed(&sheet) {
+            return Err(format!(
+                "the peer's listing differs from its dynamic program: {}",
+                hex(bytes)
+            ));
+        }
+        self.count(bytes, &planned);
+        Ok(Outcome::Planned(planned))
+    }
+
+    fn count(&mut self, sheet: &[u8], planned: &Planned) {
+        let to_300 = unsigned(sheet, HORIZON) == 300;
+        self.sheets += 1;
+        let Some(choice) = &planned.choice else {
+            if to_300 {
+                self.tally.saw(Kind::NoChainTo300);
+            }
+            return;
+        };
+        let ties = choice.ties;
+        self.tally.saw(Kind::Chain(Parts::of(sheet, &choice.chain)));
+        let seen = [
+            (to_300, Kind::ChainTo300),
+            (to_300 && ties.any(), Kind::TiesTo300),
+            (ties.of_i, Kind::TieOfI),
+            (ties.of_j, Kind::TieOfJ),
+            (ties.of_ends, Kind::TieOfEnds),
+            (ties.any(), Kind::Ties),
+        ];
+        for (_, kind) in seen.into_iter().filter(|(is, _)| *is) {
+            self.tally.saw(kind);
+        }
+    }
+
+    fn compare(
+        &mut self,
+        sheet: &[u8],
+        outcome: &Outcome,
+        plan_length: usize,
+        words_count: usize,
+    ) -> Result<(), String> {
+        let mut lent = Lent::new(&mut self.random, plan_length, words_count);
+        let mut expected = lent.clone();
+        let (answer, kind) = outcome.apply(&mut expected);
+        let given = lent.call(sheet);
+        let place = format!("plan buffer of {plan_length} bytes, {words_count} words");
+        if given != answer.packed() {
+            let difference = difference(given, answer.packed(), sheet);
+            return Err(format!("{place}: {difference}"));
+        }
+        if let Some(difference) = lent.difference(&expected) {
+            let given = described(given);
+            return Err(format!("{place}: {given}, {difference}: {}", hex(sheet)));
+        }
+        if kind == Kind::Accepted {
+            self.accepted(sheet, &mut lent, given, outcome.plan_bytes())?;
+        }
+        self.tally.compared += 1;
+        self.tally.saw(kind);
+        Ok(())
+    }
+
+    /// The written plan is priced at the total that is answered, and holds it.
+    fn accepted(
+        &mut self,
+        sheet: &[u8],
+        lent: &mut Lent,
+        given: u64,
+        plan_bytes: usize,
+    ) -> Result<(), String> {
+        let plan = &lent.plan()[..plan_bytes];
+        let priced = library::price(sheet, plan);
+        let held = unsigned(plan, TOTAL) as u64;
+        if priced != given || held != given / 256 {
+            let [priced, given] = [priced, given].map(described);
+            return Err(format!(
+                "planned with {given}, priced with {priced}, total field {held}: {}",
+                hex(sheet)
+            ));
+        }
+        self.tally.saw(if lent.plan_length() == plan_bytes {
+            Kind::ExactPlan
+        } else {
+            Kind::LongerPlan
+        });
+        Ok(())
+    }
+
+    /// Every plan length of the list, and too few words with some of them.
+    fn all_lengths(&mut self, sheet: &[u8]) -> Result<(), String> {
+        let outcome = self.plan(sheet)?;
+        let horizon = unsigned(sheet, HORIZON);
+        let lengths = plan_lengths(&mut self.random, horizon, outcome.plan_bytes());
+        let lengths: Vec<usize> = lengths.into_iter().collect();
+        for &plan_length in &lengths {
+            let words = enough_words(&mut self.random);
+            self.compare(sheet, &outcome, plan_length, words)?;
+        }
+        for words in [0, 1, 601, self.random.below(WORDS)] {
+            let plan_length = lengths[self.random.below(lengths.len())];
+            self.compare(sheet, &outcome, plan_length, words)?;
+        }
+        Ok(())
+    }
+
+    /// A few lengths, for sheets on which planning takes long.
+    fn few_lengths(&mut self, sheet: &[u8]) -> Result<(), String> {
+        let outcome = self.plan(sheet)?;
+        let horizon = unsigned(sheet, HORIZON);
+        let own = outcome.plan_bytes();
+        let lengths = plan_lengths(&mut self.random, horizon, own);
+        let lengths: Vec<usize> = lengths.into_iter().collect();
+        let some = lengths[self.random.below(lengths.len())];
+        for plan_length in [own, own - 1, some] {
+            let words = enough_words(&mut self.random);
+            self.compare(sheet, &outcome, plan_length, words)?;
+        }
+        self.compare(sheet, &outcome, some, WORDS - 1)
+    }
+
+    /// So many sheets of a kind as they are, and so many with ties.
+    fn sheets_of(
+        &mut self,
+        make: fn(&mut Random) -> Vec<u8>,
+        [plain, tied]: [usize; 2],
+        lengths: fn(&mut Comparison, &[u8]) -> Result<(), String>,
+    ) -> Result<(), String> {
+        for index in 0..plain + tied {
+            let mut sheet = make(&mut self.random);
+            if index >= plain {
+                make_ties(&mut self.random, &mut sheet);
+            }
+            lengths(self, &sheet)?;
+        }
+        Ok(())
+    }
+
+    /// Every plan length, and every count of words.
+    fn sweep(&mut self) -> Result<(), String> {
+        for _ in 0..SWEPT_SHEETS {
+            let sheet = brief_sheet(&mut self.random);
+            let outcome = self.plan(&sheet)?;
+            for plan_length in 0..=plan_bytes(unsigned(&sheet, HORIZON) as usize) + 3 {
+                self.compare(&sheet, &outcome, plan_length, WORDS)?;
+            }
+            for words in 0..=WORDS + 3 {
+                self.compare(&sheet, &outcome, outcome.plan_bytes(), words)?;
+            }
+        }
+        Ok(())
+    }
+
+    fn cases(&mut self) -> Result<(), String> {
+        [case_9(), case_10(), case_11(), case_12(), paper_sheet()]
+            .iter()
+            .try_for_each(|sheet| self.all_lengths(sheet))
+    }
+
+    /// With and without a fault of the buffers: the sheet's refusal comes first.
+    fn damaged_sheets(&mut self) -> Result<(), String> {
+        for _ in 0..DAMAGED_SHEETS {
+            let sheet = random_sheet(&mut self.random);
+            let outcome = Outcome::without_planning(&sheet);
+            let most_words = match outcome {
+                Outcome::Refused(_) => 700,
+                _ => WORDS - 1,
+            };
+            for (plan_length, words) in [(0, 0), (18, 601), (619, 602), (700, 700)] {
+                self.compare(&sheet, &outcome, plan_length, words.min(most_words))?;
+            }
+        }
+        Ok(())
+    }
+
+    fn summary(&self) -> Result<String, String> {
+        let calls = self.tally.summary("plannings", all_kinds(), LEAST_SEEN)?;
+        let [accepted, few_words, no_chain, short_plan, ties] = [
+            Kind::Accepted,
+            Kind::TooFewWords,
+            Kind::NoChain,
+            Kind::ShortPlan,
+            Kind::Ties,
+        ]
+        .map(|kind| self.tally.seen(kind));
+        Ok(format!(
+            "{calls}: number 0 {accepted} times, 10 {few_words}, 11 {no_chain}, 12 {short_plan}; \
+             {} sheets planned, {ties} with ties",
+            self.sheets
+        ))
+    }
+}
+
+pub fn compare_plans(seed: u64) -> Result<String, String> {
+    let mut comparison = Comparison {
+        tally: Tally::new(),
+        sheets: 0,
+        random: Random(seed),
+    };
+    comparison.cases()?;
+    comparison.sheets_of(brief_sheet, BRIEF_SHEETS, Comparison::all_lengths)?;
+    comparison.sheets_of(chained_sheet, CHAINED_SHEETS, Comparison::all_lengths)?;
+    comparison.sheets_of(small_sheet, SMALL_SHEETS, Comparison::all_lengths)?;
+    comparison.sheets_of(long_sheet, LONG_SHEETS, Comparison::few_lengths)?;
+    comparison.sheets_of(corner_sheet, CORNER_SHEETS, Comparison::few_lengths)?;
+    comparison.sheets_of(frequent_sheet, FREQUENT_SHEETS, Comparison::few_lengths)?;
+    comparison.sweep()?;
+    comparison.damaged_sheets()?;
+    comparison.summary()
+}

@@ -1,0 +1,70 @@
+//! What a feasible chain has of each option, so that chains of every shape can be counted.
+
+use crate::plan::Chain;
+use crate::sheet::{of_option, unsigned, LONGEST};
+
+/// What a feasible chain has of an option that may be empty.
+#[derive(Clone, Copy, PartialEq, Eq, PartialOrd, Ord, Debug)]
+pub enum Part {
+    Kept,
+    Empty { offered: bool },
+}
+
+#[derive(Clone, Copy, PartialEq, Eq, PartialOrd, Ord)]
+pub struct Parts {
+    maintain: Part,
+    renovate: Part,
+    /// How many there are: none, one, or more.
+    replacements: usize,
+}
+
+const PARTS: [Part; 3] = [
+    Part::Kept,
+    Part::Empty { offered: false },
+    Part::Empty { offered: true },
+];
+
+fn part(sheet: &[u8], option: usize, length: i64) -> Part {
+    match length {
+        0 => Part::Empty {
+            offered: unsigned(sheet, of_option(option, LONGEST)) > 0,
+        },
+        _ => Part::Kept,
+    }
+}
+
+impl Parts {
+    pub fn of(sheet: &[u8], chain: &Chain) -> Parts {
+        Parts {
+            maintain: part(sheet, 0, chain.i),
+            renovate: part(sheet, 1, chain.j - chain.i),
+            replacements: chain.ends.len().min(2),
+        }
+    }
+
+    /// Some year is at least 1, so something is kept.
+    pub fn all() -> impl Iterator<Item = Parts> {
+        let pairs = PARTS.map(|maintain| PARTS.map(|renovate| (maintain, renovate)));
+        let all = pairs
+            .into_iter()
+            .flatten()
+            .flat_map(|(maintain, renovate)| {
+                [0, 1, 2].map(|replacements| Parts {
+                    maintain,
+                    renovate,
+                    replacements,
+                })
+            });
+        all.filter(|parts| {
+            parts.replacements > 0 || [parts.maintain, parts.renovate].contains(&Part::Kept)
+        })
+    }
+
+    pub fn described(self) -> String {
+        let many = ["no", "one", "several"][self.replacements];
+        format!(
+            "maintain {:?}, renovate {:?}, {many} replacements,",
+            self.maintain, self.renovate
+        )
+    }
+}
