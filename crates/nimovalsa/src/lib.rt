@@ -63,7 +63,7 @@ pub extern "C" fn nimovalsa_price(sheet: &[u8], plan: &[u8]) -> u64
 pub extern "C" fn nimovalsa_plan(sheet: &[u8], plan: &mut [u8], words: &mut [u64]) -> u64
     ensures answer { λ r. ⌜ Returns r (planAnswer (now (sheet .entry)) (now (plan .entry)) (now (words .entry))) ⌝ }
     ensures plan { λ _. ⌜ now (plan .exit) ≡ planAfter (now (sheet .entry)) (now (plan .entry)) (now (words .entry)) ⌝ }
-    ensures words { λ _. ⌜ now (words .exit) ≡ wordsAfter (now (sheet .entry)) (now (words .entry)) ⌝ }
+    ensures words { λ _. ⌜ now (words .exit) ≡ wordsAfter (now (sheet .entry)) (now (plan .entry)) (now (words .entry)) ⌝ }
     ensures ten { λ r. ⌜ RefusedTen (now (sheet .entry)) (now (words .entry)) (numberIn r) ⌝ }
     ensures eleven { λ r. ⌜ RefusedEleven (now (sheet .entry)) (now (words .entry)) (numberIn r) ⌝ }
     ensures twelve { λ r. ⌜ RefusedTwelve (now (sheet .entry)) (now (plan .entry)) (now (words .entry)) (numberIn r) ⌝ }

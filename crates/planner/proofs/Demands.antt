@@ -6,6 +6,7 @@ use mathlib.Core.List.{List}
 use Rattle.sheet.specs.Sheet.{PlanningSheet, sheetOf}
 use Rattle.checking.specs.Answer.{accepted}
 use Rattle.checking.specs.declared.Answer.{Answer}
+use Rattle.checking.proofs.PassesLaws.{checked-iff}
 use Rattle.checking.proofs.FitLaws.{fit}
 use Rattle.chain.specs.Chain.{Chain, Feasible, roundedTotal}
 use Rattle.chain.specs.Pricing.{priced}
@@ -65,9 +66,9 @@ module _ (s plan words : List ℕ) where
       }
 
   -- the words
-  lends-cheapest : LendsCheapest s words (wordsAfter s words)
+  lends-cheapest : LendsCheapest s words (wordsAfter s plan words)
   lends-cheapest h =
-      subst (CheapestWords (sheetOf s) words) (sym (words-lent s words h)) (words-cheapest-of-passes s (h .passes) words (h .enough))
+      subst (CheapestWords (sheetOf s) words) (sym (words-lent s plan words (checked-iff s .1 (h .passes)) (h .enough))) (words-cheapest-of-passes s (h .passes) words (h .enough))
 
   -- pricing what was written
   priced-as-printed : PricedAsPrinted s number total plan′
@@ -92,7 +93,7 @@ module _ (s plan words : List ℕ) where
       rw (done-decode s plan words d)
       (chain-loss p (fit s (d .ready .passes)) (found p) c (d .chosen .feasible) h (chosen-chain-le p (found p) (d .chosen) c h))
 
-  leaves : Leaves number plan words plan′ (wordsAfter s words)
+  leaves : Leaves number plan words plan′ (wordsAfter s plan words)
   leaves = way-leaves (way s plan words)
 
 -- All of them, of what a call answered and left.
@@ -112,7 +113,7 @@ Promised s plan words number total plan′ words′ =
 pub promised :
     (s plan words : List ℕ) {number total : ℕ} {plan′ words′ : List ℕ}
     → number ≡ planAnswer s plan words .number → total ≡ planAnswer s plan words .total
-    → plan′ ≡ planAfter s plan words → words′ ≡ wordsAfter s words → Promised s plan words number total plan′ words′
+    → plan′ ≡ planAfter s plan words → words′ ≡ wordsAfter s plan words → Promised s plan words number total plan′ words′
 promised s plan words {number} {total} {plan′} {words′} n t b w =
     subst (λ (k : ℕ). Promised s plan words k total plan′ words′) (sym n)
     (subst (λ (k : ℕ). Promised s plan words (planAnswer s plan words .number) k plan′ words′) (sym t)
@@ -142,9 +143,9 @@ promised s plan words {number} {total} {plan′} {words′} n t b w =
 
 pub met :
     (s plan words : List ℕ) {r : Answer} {plan′ words′ : List ℕ}
-    → (r ≡ planAnswer s plan words) × (plan′ ≡ planAfter s plan words) × (words′ ≡ wordsAfter s words)
+    → (r ≡ planAnswer s plan words) × (plan′ ≡ planAfter s plan words) × (words′ ≡ wordsAfter s plan words)
     → (r ≡ planAnswer s plan words)
     × ((plan′ ≡ planAfter s plan words)
-    × ((words′ ≡ wordsAfter s words) × Promised s plan words (r .number) (r .total) plan′ words′))
+    × ((words′ ≡ wordsAfter s plan words) × Promised s plan words (r .number) (r .total) plan′ words′))
 met s plan words h =
     (h .0, (h .1, (h .2, promised s plan words (ap (λ (a : Answer). a .number) (h .0)) (ap (λ (a : Answer). a .total) (h .0)) (h .1) (h .2))))

@@ -8,6 +8,7 @@ use lib.ListN.{length, getD, take}
 use lib.Seq.{sets, length-sets}
 use Rattle.sheet.specs.Sheet.{sheetOf}
 use Rattle.checking.specs.declared.Answer.{Answer}
+use Rattle.checking.proofs.PassesLaws.{checked-iff}
 use Rattle.checking.proofs.FitLaws.{fit}
 use Rattle.chain.specs.Chain.{Chain, roundedTotal}
 use Rattle.chain.specs.PlanBytes.{encode, totalField, countField, decode}
@@ -62,12 +63,12 @@ module _ (s plan words : List ℕ) where
     done-length : length (planAfter s plan words) ≡ length plan
     done-length = ap length (d .written) ∙ length-sets plan 0 (encode units chain)
 
-  lent-length : Ready s words → length (wordsAfter s words) ≡ length words
-  lent-length h = ap length (words-lent s words h) ∙ tail-words-length (sheetOf s) words
+  lent-length : Ready s words → length (wordsAfter s plan words) ≡ length words
+  lent-length h = ap length (words-lent s plan words (checked-iff s .1 (h .passes)) (h .enough)) ∙ tail-words-length (sheetOf s) words
 
   -- a refusal after the words are written leaves the plan
   refused-leaves :
-      (n : ℕ) → Ready s words → 11 ≤ n → planAfter s plan words ≡ plan → Leaves n plan words (planAfter s plan words) (wordsAfter s words)
+      (n : ℕ) → Ready s words → 11 ≤ n → planAfter s plan words ≡ plan → Leaves n plan words (planAfter s plan words) (wordsAfter s plan words)
   refused-leaves n h late left =
       record {
         planLeft = λ z. left;
@@ -78,14 +79,14 @@ module _ (s plan words : List ℕ) where
 
   -- one before that leaves both
   early-leaves :
-      (n : ℕ) → 1 ≤ n → planAfter s plan words ≡ plan → wordsAfter s words ≡ words
-      → Leaves n plan words (planAfter s plan words) (wordsAfter s words)
+      (n : ℕ) → 1 ≤ n → planAfter s plan words ≡ plan → wordsAfter s plan words ≡ words
+      → Leaves n plan words (planAfter s plan words) (wordsAfter s plan words)
   early-leaves n some left kept =
       record { planLeft = λ z. left; wordsLeft = λ l m. kept; behind = λ z. absurd (omega arith); lengths = (ap length left, ap length kept) }
 
 pub way-leaves :
     {s plan words : List ℕ} → Way s plan words
-    → Leaves (planAnswer s plan words .number) plan words (planAfter s plan words) (wordsAfter s words)
+    → Leaves (planAnswer s plan words .number) plan words (planAfter s plan words) (wordsAfter s plan words)
 way-leaves {s} {plan} {words} (faulty f a l w) = early-leaves s plan words _ (fault-some s plan words a f) l w
 way-leaves {s} {plan} {words} (few h m a l w) = early-leaves s plan words _ (omega (arith, numberOf a)) l w
 way-leaves {s} {plan} {words} (none h f a l) = refused-leaves s plan words _ h (omega (arith, numberOf a)) l

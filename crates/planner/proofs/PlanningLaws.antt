@@ -5,22 +5,22 @@ use Prim.Native.Nat.{ℕ, _≤_, _<_}
 use mathlib.Core.Path.{_≡_, refl, sym, _∙_}
 use mathlib.Core.Bool.{true, false}
 use mathlib.Core.List.{List}
-use lib.Dec.{leb, ltb, eqb}
+use native.Mathlib.Nat.{pos-of-ne-zero}
+use native.Mathlib.Omega.{arith}
+use lib.Dec.{ltb, eqb}
 use lib.ListN.{length}
-use lib.Seq.{sets}
 use borrow.Author.Tests.{eq-eqb, ne-eqb, le-leb, lt-leb, lt-ltb, le-ltb}
 use Rattle.sheet.specs.Sheet.{PlanningSheet, sheetOf}
 use Rattle.checking.specs.Answer.{accepted, refused}
 use Rattle.checking.specs.Refusals.{checked}
 use Rattle.checking.specs.declared.Answer.{Answer}
 use Rattle.checking.proofs.AnswerLaws.{orElse-pass, orElse-stop}
-use Rattle.checking.proofs.PassesLaws.{checked-iff}
-use Rattle.chain.specs.PlanBytes.{encode}
+use Rattle.checking.proofs.TestLaws.{by-test}
+use Rattle.checking.proofs.RangeLaws.{checked-number-le}
 use Rattle.choice.specs.Running.{noTotal}
 use Rattle.tails.specs.Words.{tailWords}
 use Rattle.front.specs.Planned.{planned}
-use Rattle.planner.specs.Planning.{found, planLength, planning, planWritten, planAnswer, planAfter, wordsAfter}
-use Rattle.planner.specs.Promises.{Ready}
+use Rattle.planner.specs.Planning.{found, planLength, planWith, planning, planWritten, planAnswer, wordsTouched, planAfter, wordsAfter}
 
 module _ (p : PlanningSheet) (plan : List ℕ) where
   -- what is answered, and what the plan buffer then holds
@@ -40,47 +40,66 @@ module _ (p : PlanningSheet) (plan : List ℕ) where
         (rw (t, u), rw (t, u))
 
     pub planning-fits :
-        planLength (found p) ≤ length plan → Ends (accepted (planned p .total)) (sets plan 0 (encode (planned p .total) (found p)))
+        planLength (found p) ≤ length plan → Ends (accepted (planned p .total)) (planWith p plan)
     unfolding planning planWritten
     planning-fits l =
         let t = ne-eqb (planned p .total) noTotal there in
         let u = le-ltb (length plan) (planLength (found p)) l in
         (rw (t, u), rw (t, u))
 
+-- 0, 11 or 12: the words are written
+planning-touches : (p : PlanningSheet) (room : ℕ) → wordsTouched (planning p room .number) ≡ true
+unfolding planning
+planning-touches p room =
+    by-test (eqb (planned p .total) noTotal) (λ t. rw t)
+    (λ t. by-test (ltb room (planLength (found p))) (λ u. rw (t, u)) (λ u. rw (t, u)))
+
+-- 1 to 10: they are not
+not-touched : (number : ℕ) → 1 ≤ number → number ≤ 10 → wordsTouched number ≡ false
+not-touched number some few =
+    rw (ne-eqb number 0 (λ e. omega arith), ne-eqb number 11 (λ e. omega arith), ne-eqb number 12 (λ e. omega arith))
+
 module _ (s plan words : List ℕ) where
   -- what a whole call answers, and what its buffers then hold
   abbrev pub Outcome : Answer → (plan′ words′ : List ℕ) → Type 0
-  Outcome a plan′ words′ = (a ≡ planAnswer s plan words) × (plan′ ≡ planAfter s plan words) × (words′ ≡ wordsAfter s words)
+  Outcome a plan′ words′ = (a ≡ planAnswer s plan words) × (plan′ ≡ planAfter s plan words) × (words′ ≡ wordsAfter s plan words)
+
+  -- an answer from 1 to 10 leaves both
+  outcome-left : (a : Answer) → a ≡ planAnswer s plan words → 1 ≤ a .number → a .number ≤ 10 → Outcome a plan words
+  unfolding planAfter wordsAfter
+  outcome-left a e some few = (
+    e,
+    rw (← e, ne-eqb (a .number) 0 (λ z. omega arith)),
+    rw (← e, not-touched (a .number) some few),
+  )
 
   pub plan-refused : (a : Answer) → a ≡ checked s → (a .number ≡ 0 → ⊥) → Outcome a plan words
-  unfolding planAnswer planAfter wordsAfter
+  unfolding planAnswer
   plan-refused a e h =
       let some : checked s .number ≡ 0 → ⊥ = rw e at h in
-      let t = ne-eqb (checked s .number) 0 some in
-      (e ∙ sym (orElse-stop (checked s) _ some), rw t, rw t)
+      let few = checked-number-le s in
+      outcome-left a (e ∙ sym (orElse-stop (checked s) _ some)) (pos-of-ne-zero h) (rw e (omega arith))
 
   module _ (passed : checked s .number ≡ 0) where
     pub plan-few : length words < 602 → Outcome (refused 10 3) plan words
-    unfolding planAnswer planAfter wordsAfter
+    unfolding planAnswer
     plan-few l =
-        let t = eq-eqb (checked s .number) 0 passed in
         let u = lt-leb 602 (length words) l in
-        (sym (orElse-pass (checked s) _ passed ∙ rw u), rw (t, u), rw (t, u))
+        outcome-left (refused 10 3) (sym (orElse-pass (checked s) _ passed ∙ rw u)) (omega arith) (omega arith)
 
-    pub plan-on :
-        602 ≤ length words → (a : Answer) (plan′ words′ : List ℕ)
-        → a ≡ planning (sheetOf s) (length plan) → plan′ ≡ planWritten (sheetOf s) plan → words′ ≡ tailWords (sheetOf s) words
-        → Outcome a plan′ words′
-    unfolding planAnswer planAfter wordsAfter
-    plan-on l a plan′ words′ answer written lent =
-        let t = eq-eqb (checked s .number) 0 passed in
-        let u = le-leb 602 (length words) l in
-        (answer ∙ sym (orElse-pass (checked s) _ passed ∙ rw u), written ∙ rw (t, u), lent ∙ rw (t, u))
+    module _ (enough : 602 ≤ length words) where
+      planning-answered : planning (sheetOf s) (length plan) ≡ planAnswer s plan words
+      unfolding planAnswer
+      planning-answered = sym (orElse-pass (checked s) _ passed ∙ rw (le-leb 602 (length words) enough))
 
--- the words are written where the sheet passes and there are enough of them
-pub words-lent : (s words : List ℕ) → Ready s words → wordsAfter s words ≡ tailWords (sheetOf s) words
-unfolding wordsAfter
-words-lent s words h =
-    let t = eq-eqb (checked s .number) 0 (checked-iff s .1 (h .passes)) in
-    let u = le-leb 602 (length words) (h .enough) in
-    rw (t, u)
+      pub words-lent : wordsAfter s plan words ≡ tailWords (sheetOf s) words
+      unfolding wordsAfter
+      words-lent = rw (← planning-answered, planning-touches (sheetOf s) (length plan))
+
+      pub plan-on :
+          (a : Answer) (plan′ words′ : List ℕ)
+          → a ≡ planning (sheetOf s) (length plan) → plan′ ≡ planWritten (sheetOf s) plan → words′ ≡ tailWords (sheetOf s) words
+          → Outcome a plan′ words′
+      unfolding planWritten planAfter
+      plan-on a plan′ words′ answer written lent =
+          (answer ∙ planning-answered, written ∙ rw planning-answered, lent ∙ sym words-lent)

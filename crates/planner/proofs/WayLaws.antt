@@ -41,9 +41,9 @@ pub record Done (s plan words : List ℕ) : Type 0 where
 -- what is said of the call in each way
 pub data Way (s plan words : List ℕ) : Type 0 where
   faulty :
-      (Passes s → ⊥) → planAnswer s plan words ≡ checked s → planAfter s plan words ≡ plan → wordsAfter s words ≡ words → Way s plan words
+      (Passes s → ⊥) → planAnswer s plan words ≡ checked s → planAfter s plan words ≡ plan → wordsAfter s plan words ≡ words → Way s plan words
   few :
-      Passes s → length words < 602 → planAnswer s plan words ≡ refused 10 3 → planAfter s plan words ≡ plan → wordsAfter s words ≡ words
+      Passes s → length words < 602 → planAnswer s plan words ≡ refused 10 3 → planAfter s plan words ≡ plan → wordsAfter s plan words ≡ words
       → Way s plan words
   none :
       Ready s words → ((c : Chain) → Feasible (sheetOf s) c → ⊥) → planAnswer s plan words ≡ refused 11 3 → planAfter s plan words ≡ plan

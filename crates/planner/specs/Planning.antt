@@ -2,7 +2,7 @@
 -- Definitions only.
 use Prim.Native.Nat.{ℕ, _+_, _*_}
 use mathlib.Core.List.{List}
-use mathlib.Core.Bool.{Bool, cond, _&&_}
+use mathlib.Core.Bool.{Bool, cond, _||_}
 use lib.Dec.{leb, ltb, eqb}
 use lib.ListN.{length}
 use lib.Seq.{sets}
@@ -30,9 +30,9 @@ planning p room =
     cond (eqb (planned p .total) noTotal) (refused 11 3)
     (cond (ltb room (planLength (found p))) (refused 12 3) (accepted (planned p .total)))
 
--- the plan buffer after that: the plan is written where the chain is accepted, and the bytes behind it are untouched
-unfoldable pub planWritten : PlanningSheet → List ℕ → List ℕ
-planWritten p plan = cond (eqb (planning p (length plan) .number) 0) (sets plan 0 (encode (planned p .total) (found p))) plan
+-- the plan of that chain at the front of a buffer
+abbrev pub planWith : PlanningSheet → List ℕ → List ℕ
+planWith p plan = sets plan 0 (encode (planned p .total) (found p))
 
 -- 10: fewer than 602 words lent
 abbrev pub wordsEnough : List ℕ → Bool
@@ -42,12 +42,23 @@ wordsEnough words = leb 602 (length words)
 unfoldable pub planAnswer : (sheet plan words : List ℕ) → Answer
 planAnswer s plan words = checked s orElse cond (wordsEnough words) (planning (sheetOf s) (length plan)) (refused 10 3)
 
--- refusals 1 to 10 leave all buffers; else the words are written, and the plan where it is accepted
-abbrev pub goesOn : (sheet words : List ℕ) → Bool
-goesOn s words = eqb (checked s .number) 0 && wordsEnough words
+-- The table's column 'Left': an accepted call writes the plan, every refusal leaves it. The words are written on 0, 11 and 12; refusals 1 to
+-- 10 leave them.
+abbrev pub planTouched : ℕ → Bool
+planTouched number = eqb number 0
 
+abbrev pub wordsTouched : ℕ → Bool
+wordsTouched number = eqb number 0 || eqb number 11 || eqb number 12
+
+-- what the plan buffer holds after the call; the bytes behind the plan are untouched
 unfoldable pub planAfter : (sheet plan words : List ℕ) → List ℕ
-planAfter s plan words = cond (goesOn s words) (planWritten (sheetOf s) plan) plan
+planAfter s plan words =
+    cond (planTouched (planAnswer s plan words .number)) (planWith (sheetOf s) plan) plan
 
-unfoldable pub wordsAfter : (sheet words : List ℕ) → List ℕ
-wordsAfter s words = cond (goesOn s words) (tailWords (sheetOf s) words) words
+-- the same, where the sheet is at hand
+unfoldable pub planWritten : PlanningSheet → List ℕ → List ℕ
+planWritten p plan = cond (planTouched (planning p (length plan) .number)) (planWith p plan) plan
+
+-- what the words hold after the call
+unfoldable pub wordsAfter : (sheet plan words : List ℕ) → List ℕ
+wordsAfter s plan words = cond (wordsTouched (planAnswer s plan words .number)) (tailWords (sheetOf s) words) words

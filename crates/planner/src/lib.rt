@@ -12,7 +12,7 @@ mod written;
 pub fn plan(sheet: &[u8], plan: &mut [u8], words: &mut [u64]) -> Answer
     ensures answer { λ r. ⌜ r ≡ planAnswer (now (sheet .entry)) (now (plan .entry)) (now (words .entry)) ⌝ }
     ensures plan { λ _. ⌜ now (plan .exit) ≡ planAfter (now (sheet .entry)) (now (plan .entry)) (now (words .entry)) ⌝ }
-    ensures words { λ _. ⌜ now (words .exit) ≡ wordsAfter (now (sheet .entry)) (now (words .entry)) ⌝ }
+    ensures words { λ _. ⌜ now (words .exit) ≡ wordsAfter (now (sheet .entry)) (now (plan .entry)) (now (words .entry)) ⌝ }
     ensures ten { λ r. ⌜ RefusedTen (now (sheet .entry)) (now (words .entry)) (r .number) ⌝ }
     ensures eleven { λ r. ⌜ RefusedEleven (now (sheet .entry)) (now (words .entry)) (r .number) ⌝ }
     ensures twelve { λ r. ⌜ RefusedTwelve (now (sheet .entry)) (now (plan .entry)) (now (words .entry)) (r .number) ⌝ }

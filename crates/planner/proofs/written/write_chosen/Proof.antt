@@ -17,7 +17,7 @@ use Rattle.front.specs.Planned.{planned}
 use Rattle.front.specs.Front.{front}
 use Rattle.front.specs.declared.Front.{Front}
 use Rattle.front.proofs.TakenLaws.{planned-begins}
-use Rattle.planner.specs.Planning.{found, planLength}
+use Rattle.planner.specs.Planning.{found, planWith}
 use Rattle.planner.proofs.PlanningLaws.{Ends, planning-none, planning-short, planning-fits}
 use Rattle.planner.proofs.FoundLaws.{found-read, found-count, found-few}
 use borrow.Author.Needs.{needs}
@@ -79,14 +79,14 @@ fits :
     (c : tie.Else2) (p : PlanningSheet)
     → let s = start (going (c .before) .before) in
     s .args .sheet ≡ parsed p
-    → Ends p (now (s .args .plan)) (accepted (planned p .total)) (sets (now (s .args .plan)) 0 (encode (planned p .total) (found p)))
+    → Ends p (now (s .args .plan)) (accepted (planned p .total)) (planWith p (now (s .args .plan)))
 fits c p read =
     planning-fits p _ (there (going (c .before)) p read) (omega (arith, count-read (c .before .before) p read, c .if2 .left))
 
 written :
     (c : tie.After-write-plan) (p : PlanningSheet)
     → let s = start (going (c .before .before .before .before) .before) in
-    s .args .sheet ≡ parsed p → c .write-plan .last .0 ≡ sets (now (s .args .plan)) 0 (encode (planned p .total) (found p))
+    s .args .sheet ≡ parsed p → c .write-plan .last .0 ≡ planWith p (now (s .args .plan))
 written c p read =
     let m = c .before .before .before .before in
     let f = going m .before in
