@@ -4,3 +4,4 @@
 --     Cases: document 01's cases 9 to 12, and the list of all twelve
 pub mod Planning
 pub mod Promises
+pub mod Cases
