@@ -5,7 +5,7 @@ use Prim.Native.Nat.{ℕ, _-_, _*_, _≤_, _<_}
 use mathlib.Core.Path.{_≡_, refl, ap, sym, subst, _∙_}
 use mathlib.Core.Bool.{true}
 use mathlib.Core.List.{List, [], _∷_}
-use mathlib.Core.Logic.{_↔_, ⊎-elim}
+use mathlib.Core.Logic.{_↔_, inl, inr, ⊎-elim}
 use native.Mathlib.Omega.{arith}
 use Rattle.sheet.specs.Sheet.{PlanningSheet}
 use Rattle.sheet.specs.Parsed.{parsed}
@@ -16,7 +16,7 @@ use Rattle.costing.specs.Offered.{offered}
 use Rattle.costing.proofs.OfferedLaws.{offered-iff}
 use Rattle.chain.specs.Chain.{Chain, maintain, renovate, Reaches, activities, Feasible, arcsOf, roundedTotal}
 use Rattle.chain.proofs.FeasibleLaws.{feasible-parts}
-use Rattle.choice.specs.Choice.{Chosen}
+use Rattle.choice.specs.Choice.{Before, Chosen}
 use Rattle.choice.specs.Running.{noTotal, noEntry, Holds, Then, thenWeight}
 use Rattle.choice.proofs.ChoiceLaws.{chosen-only}
 use Rattle.choice.proofs.HoldsLaws.{holds-none, holds-noEntry, holds-chosen}
@@ -24,7 +24,7 @@ use Rattle.tails.specs.Tail.{costTo, tail}
 use Rattle.tails.specs.Cheapest.{replaced}
 use Rattle.tails.proofs.TailLaws.{room-lt, best-holds, tail-holds}
 use Rattle.front.specs.Planned.{renovated, planned, years, chainOf}
-use Rattle.front.specs.ChosenChain.{ChosenChain}
+use Rattle.front.specs.ChosenChain.{TakenBefore, ChosenChain}
 
 module _ (p : PlanningSheet) where
   -- j, k1, .., km: renovating from i to an offered j, and replacements from there to T; and what they cost
@@ -60,6 +60,12 @@ module _ (p : PlanningSheet) where
   unfolding roundedTotal activities arcsOf total
   rounded-years c = refl
 
+  -- the order of choice of the years is the one that document 01 gives for chains
+  taken-of-before : (c d : Chain) → Before (years c) (years d) → TakenBefore c d
+  taken-of-before c d h =
+      ⊎-elim (λ l. inl (omega arith))
+      (λ i. inr (i .0, ⊎-elim (λ l. inl (omega arith)) (λ j. inr (j .0, j .1)) (i .1))) h
+
   -- a list is chosen exactly when its chain is
   chain-of-chosen : (xs : List ℕ) → Chosen Maintains maintaining xs → ChosenChain p (chainOf xs)
   chain-of-chosen xs h =
@@ -68,7 +74,10 @@ module _ (p : PlanningSheet) where
       let h = subst (Chosen Maintains maintaining) same h in
       record {
         feasible = feasible-years c .0 (h .member);
-        least = λ d f. rw (← rounded-years c, ← rounded-years d) (h .least (years d) (feasible-years d .1 f));
+        least =
+            λ d f.
+            rw (← rounded-years c, ← rounded-years d)
+            (⊎-elim inl (λ e. inr (e .0, taken-of-before c d (e .1))) (h .least (years d) (feasible-years d .1 f)));
       }
 
   chosen-of-chain : (c : Chain) → ChosenChain p c → Chosen Maintains maintaining (years c)

@@ -3,7 +3,8 @@
 use Prim.Native.Nat.{ℕ, _+_, _*_, _≤_, _<_}
 use mathlib.Core.Path.{_≡_, refl, ap, sym, subst, _∙_}
 use mathlib.Core.List.{List}
-use Rattle.sheet.specs.Sheet.{PlanningSheet, sheetOf}
+use native.Mathlib.Omega.{arith}
+use Rattle.sheet.specs.Sheet.{sheetOf}
 use Rattle.checking.specs.Answer.{accepted}
 use Rattle.checking.specs.declared.Answer.{Answer}
 use Rattle.checking.proofs.PassesLaws.{checked-iff}
@@ -91,7 +92,8 @@ module _ (s plan words : List ℕ) where
       let p = sheetOf s in
       let d = done s plan words e in
       rw (done-decode s plan words d)
-      (chain-loss p (fit s (d .ready .passes)) (found p) c (d .chosen .feasible) h (chosen-chain-le p (found p) (d .chosen) c h))
+      (omega
+      (arith, chain-loss p (fit s (d .ready .passes)) (found p) c (d .chosen .feasible) h (chosen-chain-le p (found p) (d .chosen) c h)))
 
   leaves : Leaves number plan words plan′ (wordsAfter s plan words)
   leaves = way-leaves (way s plan words)

@@ -3,8 +3,10 @@
 use Prim.Native.Nat.{ℕ, _≤_}
 use mathlib.Core.Path.{_≡_, refl, ap, sym, subst, _∙_}
 use native.Mathlib.Omega.{arith}
+use lib.ListN.{length}
 use denote.Ref.{now}
 use Rattle.sheet.specs.Sheet.{sheetOf}
+use Rattle.checking.specs.Answer.{refused}
 use Rattle.checking.specs.Refusals.{checked}
 use Rattle.checking.specs.Passes.{Passes}
 use Rattle.checking.specs.Fit.{Fit}
@@ -35,8 +37,13 @@ passes c = c .before .before .check .ensures .1 .0 (c .if1 .left)
 
 returns-2 : tie.Need-returns-2
 returns-2 c =
-    let few = plan-few _ _ _ (passed (c .before .before)) (c .before .if2 .taken) in
-    met _ _ _ (c .refused .ensures ∙ few .0, few .1, few .2)
+    let words = now (start (c .before .before .before .before) .args .words) in
+    let few = plan-few _ _ words (passed (c .before .before)) (omega (arith, c .before .if2 .taken)) in
+    met _ _ _ (c .refused .ensures ∙ ap (λ (n : ℕ). refused n 3) (omega arith) ∙ few .0, few .1, few .2)
+
+-- there are enough words where the code goes on
+enough : (c : tie.Else2) → 602 ≤ length (now (start (c .before .before .before) .args .words))
+enough c = omega (arith, c .if2 .left)
 
 -- the parsed sheet fits, and the words then have the totals of replacements
 fits : (c : tie.After-parse) → Fit (c .parse .result)
@@ -45,7 +52,7 @@ fits c = subst Fit (sym (c .parse .ensures)) (fit _ (passes (c .before .before))
 lent : (c : tie.After-tail-words) → TailsLent (c .before .before .parse .result) (c .tail-words .last .0)
 lent c =
     let q = c .before .before in
-    tails-lent _ (fits q .horizonHigh) _ _ (q .before .if2 .left) (c .tail-words .kept .0) (c .tail-words .ensures .0)
+    tails-lent _ (fits q .horizonHigh) _ _ (enough (q .before)) (c .tail-words .kept .0) (c .tail-words .ensures .0)
 
 returns-3 : tie.Need-returns-3
 returns-3 c =
@@ -54,7 +61,7 @@ returns-3 c =
     let q = t .before .before in
     let read = q .parse .ensures in
     met _ _ _
-    (plan-on _ _ _ (passed (q .before .before)) (q .before .if2 .left) _ _ _ (w .write-chosen .ensures .0 _ read)
+    (plan-on _ _ _ (passed (q .before .before)) (enough (q .before)) _ _ _ (w .write-chosen .ensures .0 _ read)
     (w .write-chosen .ensures .1 _ read) (t .tail-words .ensures .0 _ read))
 
 check-requires : tie.Need-check-requires
@@ -69,7 +76,7 @@ parse-requires c κs = passes (c .before) .header .long
 tail-words-requires : tie.Need-tail-words-requires
 tail-words-requires c κs =
     let q = c .before in
-    (fits q, (sheetOf _, q .parse .ensures), q .before .if2 .left)
+    (fits q, (sheetOf _, q .parse .ensures), enough (q .before))
 
 write-chosen-requires : tie.Need-write-chosen-requires
 write-chosen-requires c κs =

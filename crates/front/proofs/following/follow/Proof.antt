@@ -43,16 +43,16 @@ short s = s .pre .0 .0 .horizonHigh
 -- the end that is found is the first of those from the year reached
 next :
     (c : tie.After-best-end Inv-loop μ-loop) (p : PlanningSheet) → sheet (c .before .before) ≡ parsed p
-    → Next p (c .before .before .loop .year) (c .best-end .result .end)
-next c p read =
+    → (e : ℕ) → e ≡ c .best-end .result .end → Next p (c .before .before .loop .year) e
+next c p read e same =
     let a = c .before .before in
     let s = start a in
     let T = horizon-read (sheet a) p read in
     let words = s .pre .1 .0 .1 in
     let best =
-    tail-best p (sheet a) noTerms read (wordOf (now (s .args .words))) (a .loop .year) _ refl (omega arith)
+    tail-best p (sheet a) noTerms read (wordOf (now (s .args .words))) (a .loop .year) _ (omega arith) (omega arith)
     (λ e late inside. words .totals p read e (omega (arith, T))) (c .best-end .ensures) in
-    tail-next p (a .loop .year) _ (omega (arith, T)) (a .loop .inv .3 p read .there) (ap (λ (b : Best). b .end) best)
+    tail-next p (a .loop .year) e (omega (arith, T)) (a .loop .inv .3 p read .there) (same ∙ ap (λ (b : Best). b .end) best)
 
 -- there is a place for it
 room : (c : tie.After-best-end Inv-loop μ-loop) → c .before .before .loop .count < length (c .before .before .loop .ends)
@@ -66,16 +66,16 @@ later :
     → (c .before .before .loop .year < c .best-end .result .end) × (c .best-end .result .end ≤ sheet (c .before .before) .horizon)
 later c =
     let some = start (c .before .before) .pre .0 .1 in
-    let n = next c (some .0) (some .1) in
+    let n = next c (some .0) (some .1) (c .best-end .result .end) refl in
     (n .later, omega (arith, n .inside, horizon-read (sheet (c .before .before)) (some .0) (some .1)))
 
 loop-again : tie.Need-loop-again Inv-loop μ-loop
 loop-again c =
     let a = c .before .before in (
-      later c .1,
-      omega (arith, a .loop .inv .1, later c .0),
+      omega (arith, later c),
+      omega (arith, a .loop .inv .1, later c),
       simp length-set (a .loop .inv .2),
-      λ p read. reached-next p _ _ _ (a .loop .count) (a .loop .ends) (a .loop .inv .3 p read) (room c) (next c p read),
+      λ p read. reached-next p _ _ _ (a .loop .count) (a .loop .ends) (a .loop .inv .3 p read) (room c) (next c p read _ (omega (arith, later c))),
     )
 
 returns : tie.Need-returns Inv-loop μ-loop

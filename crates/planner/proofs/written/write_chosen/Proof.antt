@@ -33,8 +33,11 @@ begins :
 begins c p read = c .best-front .ensures p read
 
 -- there is one where the code goes on
+exists : (c : tie.Else1) → c .before .best-front .result .total ≡ noTotal → ⊥
+exists c q = c .if1 .left (omega arith)
+
 there : (c : tie.Else1) (p : PlanningSheet) → start (c .before) .args .sheet ≡ parsed p → planned p .total ≡ noTotal → ⊥
-there c p read q = c .if1 .left (ap (λ (f : Front). f .total) (begins (c .before) p read) ∙ q)
+there c p read q = exists c (ap (λ (f : Front). f .total) (begins (c .before) p read) ∙ q)
 
 -- the ends that were followed are the chain's
 count-read :
@@ -42,23 +45,26 @@ count-read :
     → length (found p .ends) ≡ c .ends-from .result
 count-read c p read =
     let f = c .before .before .before in
-    found-count p (f .best-front .result) (begins f p read) (c .before .before .if1 .left) _ _ (c .ends-from .ensures p read)
+    found-count p (f .best-front .result) (begins f p read) (exists (c .before .before)) _ _ (c .ends-from .ensures p read)
 
 count-few : (c : tie.After-ends-from) → c .ends-from .result ≤ length (c .ends-from .last .0)
 count-few c =
     let f = c .before .before .before in
     let some = start f .pre .1 in
-    found-few (some .0) (f .best-front .result) (begins f (some .0) (some .1)) (c .before .before .if1 .left) _ _
+    found-few (some .0) (f .best-front .result) (begins f (some .0) (some .1)) (exists (c .before .before)) _ _
     (c .ends-from .ensures (some .0) (some .1))
 
 -- no chain
 none :
     (c : tie.Then1) (p : PlanningSheet) → start (c .before) .args .sheet ≡ parsed p
     → Ends p (now (start (c .before) .args .plan)) (refused 11 3) (now (start (c .before) .args .plan))
-none c p read = planning-none p _ (sym (ap (λ (f : Front). f .total) (begins (c .before) p read)) ∙ c .if1 .taken)
+none c p read = planning-none p _ (omega (arith, ap (λ (f : Front). f .total) (begins (c .before) p read), c .if1 .taken))
 
 returns : tie.Need-returns
-returns c = (λ p read. c .refused .ensures ∙ none (c .before) p read .0, λ p read. none (c .before) p read .1)
+returns c = (
+  λ p read. c .refused .ensures ∙ ap (λ (n : ℕ). refused n 3) (omega arith) ∙ none (c .before) p read .0,
+  λ p read. none (c .before) p read .1,
+)
 
 -- a buffer that is too short
 abbrev going : tie.After-ends2 → tie.Else1
@@ -72,7 +78,10 @@ short c p read =
     planning-short p _ (there (going (c .before)) p read) (omega (arith, count-read (c .before .before) p read, c .if2 .taken))
 
 returns-2 : tie.Need-returns-2
-returns-2 c = (λ p read. c .refused2 .ensures ∙ short (c .before) p read .0, λ p read. short (c .before) p read .1)
+returns-2 c = (
+  λ p read. c .refused2 .ensures ∙ ap (λ (n : ℕ). refused n 3) (omega arith) ∙ short (c .before) p read .0,
+  λ p read. short (c .before) p read .1,
+)
 
 -- the plan of the chain that was found
 fits :
@@ -91,7 +100,7 @@ written c p read =
     let m = c .before .before .before .before in
     let f = going m .before in
     let total = ap (λ (f : Front). f .total) (begins f p read) in
-    let chain = found-read p (f .best-front .result) (begins f p read) (going m .if1 .left) _ _ (m .before .ends-from .ensures p read) in
+    let chain = found-read p (f .best-front .result) (begins f p read) (exists (going m)) _ _ (m .before .ends-from .ensures p read) in
     c .write-plan .ensures ∙ (λ k. sets (now (start f .args .plan)) 0 (encode (total k) (chain k)))
 
 returns-3 : tie.Need-returns-3
@@ -99,7 +108,9 @@ returns-3 c =
     let w = c .before .before .before in
     let e = w .before .before .before in (
       λ p read.
-          c .accepted .ensures ∙ ap accepted (ap (λ (f : Front). f .total) (begins (going (e .before) .before) p read)) ∙ fits e p read .0,
+          c .accepted .ensures
+          ∙ ap accepted (omega (arith, ap (λ (f : Front). f .total) (begins (going (e .before) .before) p read)))
+          ∙ fits e p read .0,
       λ p read. written w p read ∙ fits e p read .1,
     )
 
@@ -121,7 +132,7 @@ ends-from-requires c κs =
     let s = start f in
     let some = s .pre .1 in
     let T = horizon-read (s .args .sheet) (some .0) (some .1) in
-    let b = planned-begins (some .0) (f .best-front .result) (begins f (some .0) (some .1)) (c .before .if1 .left) in
+    let b = planned-begins (some .0) (f .best-front .result) (begins f (some .0) (some .1)) (exists (c .before)) in
     let d = f .before .of .ensures in (
       (s .pre .0, some, record { ready = d .1; number = d .0 }),
       (
