@@ -1,9 +1,8 @@
 -- The planned chain is the one that document 01 asks: there is none exactly when no chain is feasible (`planned-none`), else it is the chosen
 -- one, and its rounded total is the total (`planned-chosen`); no feasible chain has a smaller one (`chosen-chain-le`), and there is at most one
 -- chosen chain (`chosen-chain-only`). Assumes nothing.
-use Prim.Native.Nat.{ℕ, _-_, _*_, _≤_, _<_}
+use Prim.Native.Nat.{ℕ, _-_, _*_, _≤_}
 use mathlib.Core.Path.{_≡_, refl, ap, sym, subst, _∙_}
-use mathlib.Core.Bool.{true}
 use mathlib.Core.List.{List, [], _∷_}
 use mathlib.Core.Logic.{_↔_, inl, inr, ⊎-elim}
 use native.Mathlib.Omega.{arith}

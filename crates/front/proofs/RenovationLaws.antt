@@ -1,7 +1,7 @@
 -- The totals and ends of renovating, written upward: those of the years before i in which maintaining may end are there (`Written`), one year
 -- more (`written-next`), and, past the last such year, all (`written-all`). Totals leave room (`fits-none`, `fits-next`). Assumes nothing.
 use Prim.Native.Nat.{ℕ, _+_, _-_, _*_, _≤_, _<_, min, max}
-use mathlib.Core.Path.{_≡_, refl, ap, sym, _∙_}
+use mathlib.Core.Path.{_≡_, ap, sym, _∙_}
 use mathlib.Core.Bool.{true}
 use mathlib.Core.List.{List}
 use mathlib.Core.Logic.{_⊎_, inl, inr, ⊎-elim}

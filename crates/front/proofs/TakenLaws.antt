@@ -6,7 +6,6 @@ use mathlib.Core.Path.{_≡_, refl, ap, sym, subst, _∙_}
 use mathlib.Core.Bool.{true}
 use mathlib.Core.List.{List, [], _∷_}
 use mathlib.Core.Logic.{⊎-elim}
-use native.Mathlib.Omega.{arith}
 use lib.ListN.{getD}
 use Rattle.sheet.specs.Sheet.{PlanningSheet}
 use Rattle.costing.specs.Offered.{offered}
@@ -14,7 +13,7 @@ use Rattle.costing.proofs.OfferedLaws.{offered-iff}
 use Rattle.chain.specs.Chain.{maintain, renovate, replace}
 use Rattle.chain.proofs.FeasibleLaws.{replace-forward}
 use Rattle.choice.specs.Running.{Entry, noTotal, noEntry}
-use Rattle.choice.proofs.RunningLaws.{Takes, over-taken}
+use Rattle.choice.proofs.RunningLaws.{over-taken}
 use Rattle.tails.specs.Tail.{costTo, bestEnd, tail}
 use Rattle.tails.specs.Words.{firstOf}
 use Rattle.tails.specs.Best.{shown}

@@ -1,7 +1,7 @@
 // Maintaining and renovating alike: an option that may also have length 0.
 
 ghost use mathlib.Core.Path.{_≡_};
-ghost use Prim.Native.Nat.{_+_, _-_, _<_, _≤_};
+ghost use Prim.Native.Nat.{_<_, _≤_};
 ghost use lib.ListN.{length};
 ghost use Rattle.costing.specs.Fit.{KeptFits, Divides};
 ghost use Rattle.streams.specs.Streams.{Streams};

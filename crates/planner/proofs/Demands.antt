@@ -1,7 +1,7 @@
 -- The promises of planning, in the mission's order, for every sheet and all buffers: `specs/Promises` says what they mean, `WayLaws` why they
 -- hold. Assumes nothing.
-use Prim.Native.Nat.{ℕ, _+_, _*_, _≤_, _<_}
-use mathlib.Core.Path.{_≡_, refl, ap, sym, subst, _∙_}
+use Prim.Native.Nat.{ℕ}
+use mathlib.Core.Path.{_≡_, ap, sym, subst, _∙_}
 use mathlib.Core.List.{List}
 use native.Mathlib.Omega.{arith}
 use Rattle.sheet.specs.Sheet.{sheetOf}
@@ -9,7 +9,7 @@ use Rattle.checking.specs.Answer.{accepted}
 use Rattle.checking.specs.declared.Answer.{Answer}
 use Rattle.checking.proofs.PassesLaws.{checked-iff}
 use Rattle.checking.proofs.FitLaws.{fit}
-use Rattle.chain.specs.Chain.{Chain, Feasible, roundedTotal}
+use Rattle.chain.specs.Chain.{Chain, roundedTotal}
 use Rattle.chain.specs.Pricing.{priced}
 use Rattle.chain.specs.Error.{TotalNear}
 use Rattle.chain.proofs.PriceLaws.{priced-encode}
@@ -19,7 +19,7 @@ use Rattle.tails.proofs.WordLaws.{words-cheapest-of-passes}
 use Rattle.front.specs.ChosenChain.{ChosenChain}
 use Rattle.front.proofs.PlannedLaws.{chosen-chain-le, chosen-chain-only}
 use Rattle.planner.specs.Planning.{found, planAnswer, planAfter, wordsAfter}
-use Rattle.planner.specs.Promises.{Ready, RefusedTen, RefusedEleven, RefusedTwelve, AcceptedWhen, AmpleAccepted, ReturnsChosen, LendsCheapest}
+use Rattle.planner.specs.Promises.{RefusedTen, RefusedEleven, RefusedTwelve, AcceptedWhen, AmpleAccepted, ReturnsChosen, LendsCheapest}
 use Rattle.planner.specs.Promises.{PricedAsPrinted, PrintedNear, ExactlyNotFar, Leaves}
 use Rattle.planner.proofs.PlanningLaws.{words-lent}
 use Rattle.planner.proofs.WayLaws.{way, ten-of, ten-when, eleven-of, eleven-when, twelve-of, twelve-when, zero-when, ample-when}

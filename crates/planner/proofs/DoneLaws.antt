@@ -1,11 +1,11 @@
 -- When a plan was written (`done`): the total answered is the chain's (`done-sum`), and from the buffer are read the chain (`done-decode`), its
 -- total (`done-field`) and its bytes (`done-bytes`). What each way leaves of the buffers (`way-leaves`). Assumes nothing.
-use Prim.Native.Nat.{ℕ, _+_, _*_, _≤_, _<_}
-use mathlib.Core.Path.{_≡_, refl, ap, sym, subst, _∙_}
+use Prim.Native.Nat.{ℕ, _+_, _*_, _≤_}
+use mathlib.Core.Path.{_≡_, ap, _∙_}
 use mathlib.Core.List.{List}
 use native.Mathlib.Omega.{arith}
 use lib.ListN.{length, getD, take}
-use lib.Seq.{sets, length-sets}
+use lib.Seq.{length-sets}
 use Rattle.sheet.specs.Sheet.{sheetOf}
 use Rattle.checking.specs.declared.Answer.{Answer}
 use Rattle.checking.proofs.PassesLaws.{checked-iff}

@@ -2,7 +2,7 @@
 -- (`planning-short`), a plan written (`planning-fits`). Of a whole call: refused by the check (`plan-refused`), too few words (`plan-few`),
 -- or as the sheet says (`plan-on`), with the words written (`words-lent`). Assumes nothing.
 use Prim.Native.Nat.{ℕ, _≤_, _<_}
-use mathlib.Core.Path.{_≡_, refl, sym, _∙_}
+use mathlib.Core.Path.{_≡_, sym, _∙_}
 use mathlib.Core.Bool.{true, false}
 use mathlib.Core.List.{List}
 use native.Mathlib.Nat.{pos-of-ne-zero}

@@ -1,10 +1,10 @@
 -- The range of what planning answers: in the table, and small enough for its C form (`plan-small`). Assumes nothing.
 use Prim.Native.Nat.{ℕ, _≤_, _<_}
-use mathlib.Core.Path.{_≡_, sym, subst}
+use mathlib.Core.Path.{sym, subst}
 use mathlib.Core.List.{List}
 use native.Mathlib.Omega.{arith}
 use Rattle.sheet.specs.Sheet.{sheetOf}
-use Rattle.checking.specs.Answer.{accepted, refused, InTable}
+use Rattle.checking.specs.Answer.{refused, InTable}
 use Rattle.checking.specs.declared.Answer.{Answer}
 use Rattle.checking.proofs.FitLaws.{fit}
 use Rattle.checking.proofs.RangeLaws.{checked-total, checked-range}

@@ -2,7 +2,7 @@
 -- its header and then its end years (`sets-encode`); one byte of a number more and none, as a loop stores them (`sets-byte`,
 -- `sets-no-byte`); one end year more and none (`sets-end`, `sets-no-end`); what was written to the front of a buffer is read there, and
 -- the bytes behind it are kept (`written-first`, `written-behind`). Assumes nothing.
-use Prim.Native.Nat.{ℕ, zero, suc, _+_, _-_, _*_, _/_, _%_, _≤_, _<_}
+use Prim.Native.Nat.{ℕ, suc, _+_, _-_, _*_, _/_, _%_, _≤_, _<_}
 use mathlib.Core.Path.{_≡_, refl, ap, _∙_}
 use mathlib.Core.List.{List, [], _∷_, _++_}
 use native.Mathlib.Nat.{add-zero}

@@ -12,11 +12,9 @@ use Rattle.costing.specs.Offered.{offered}
 use Rattle.costing.proofs.OfferedLaws.{offered-iff}
 use Rattle.chain.specs.Chain.{maintain}
 use Rattle.choice.specs.Running.{noTotal}
-use Rattle.tails.specs.Best.{shown}
 use Rattle.tails.specs.declared.Best.{Best}
 use Rattle.front.specs.Planned.{planned}
 use Rattle.front.specs.Front.{front}
-use Rattle.front.specs.declared.Front.{Front}
 use Rattle.front.proofs.PlannedLaws.{planned-noEntry}
 use Rattle.front.proofs.TakenLaws.{planned-front}
 use borrow.Author.Needs.{needs}

@@ -1,7 +1,7 @@
 -- `plan` is what its definitions say: refused by the check, too few words, or what the words and the plan of the chosen chain give. Its
 -- promises follow from that alone. Assumes nothing.
 use Prim.Native.Nat.{ℕ, _≤_}
-use mathlib.Core.Path.{_≡_, refl, ap, sym, subst, _∙_}
+use mathlib.Core.Path.{_≡_, ap, sym, subst, _∙_}
 use native.Mathlib.Omega.{arith}
 use lib.ListN.{length}
 use denote.Ref.{now}

@@ -1,5 +1,5 @@
 -- The streams of maintaining are lent, and its end chosen by the totals of renovating. Assumes nothing.
-use mathlib.Core.Path.{subst, sym}
+use mathlib.Core.Path.{subst}
 use native.Mathlib.Omega.{arith}
 use denote.Ref.{now}
 use Rattle.checking.specs.Fit.{Fit}

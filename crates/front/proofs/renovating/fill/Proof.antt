@@ -1,7 +1,6 @@
 -- Renovating from each year in which maintaining may end: the years before i are written, and no total is too large. Assumes nothing.
-use Prim.Native.Nat.{ℕ, _+_, _-_, _≤_, _<_}
-use mathlib.Core.Path.{_≡_, refl, ap, subst, _∙_}
-use mathlib.Core.List.{List}
+use Prim.Native.Nat.{_-_, _≤_, _<_}
+use mathlib.Core.Path.{_≡_, refl, ap, subst}
 use native.Mathlib.Omega.{arith}
 use lib.ListN.{length, length-set}
 use denote.Ref.{now}
@@ -12,7 +11,7 @@ use Rattle.sheet.proofs.ParsedLaws.{horizon-read}
 use Rattle.checking.specs.Fit.{Fit}
 use Rattle.costing.proofs.SheetArcLaws.{keptOf-fits}
 use Rattle.chain.specs.Chain.{maintain, renovate}
-use Rattle.tails.specs.Best.{shown, wordOf, WordsFit}
+use Rattle.tails.specs.Best.{shown, WordsFit}
 use Rattle.tails.specs.declared.Best.{Best}
 use Rattle.tails.proofs.EndLaws.{noTerms}
 use Rattle.tails.proofs.SheetEndLaws.{words-fit}

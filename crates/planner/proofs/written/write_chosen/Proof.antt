@@ -1,7 +1,6 @@
 -- The plan of the chosen chain: no chain, a buffer that is too short for it, or its plan written. Assumes nothing.
 use Prim.Native.Nat.{ℕ, _≤_}
-use mathlib.Core.Path.{_≡_, refl, ap, sym, subst, _∙_}
-use mathlib.Core.List.{List}
+use mathlib.Core.Path.{_≡_, ap, sym, _∙_}
 use native.Mathlib.Omega.{arith}
 use lib.ListN.{length}
 use lib.Seq.{sets}
@@ -10,7 +9,6 @@ use Rattle.sheet.specs.Sheet.{PlanningSheet}
 use Rattle.sheet.specs.Parsed.{parsed}
 use Rattle.sheet.proofs.ParsedLaws.{horizon-read}
 use Rattle.checking.specs.Answer.{accepted, refused}
-use Rattle.chain.specs.Chain.{Chain}
 use Rattle.chain.specs.PlanBytes.{encode}
 use Rattle.choice.specs.Running.{noTotal}
 use Rattle.front.specs.Planned.{planned}
