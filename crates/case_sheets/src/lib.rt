@@ -2,6 +2,7 @@
 
 ghost use Prim.Native.Nat.{_+_, _≤_};
 
+pub mod document;
 pub mod paper;
 pub mod show;
 
@@ -35,6 +36,13 @@ pub fn put32(sheet: [u8; 278], at: usize, value: u64) -> [u8; 278]
     s[at + 2] = low(value / 65_536);
     s[at + 3] = low(value / 16_777_216);
     s
+}
+
+// The shortest and the longest life in the record at a place.
+pub fn lives(sheet: [u8; 278], at: usize, shortest: u64, longest: u64) -> [u8; 278]
+    requires { ⌜ at ≤ 189 ⌝ }
+{
+    put16(put16(sheet, at, shortest), at + 2, longest)
 }
 
 // T 300, r 40,000, every record zero.

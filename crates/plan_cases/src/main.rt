@@ -1,0 +1,20 @@
+// Runs `plan` on sheets and prints the plan of each, or its refusal; the file `stdout` beside `src` has the lines expected. Cases 9 to 12 of
+// document 01, and case 12 with buffers at their limits; the paper's case study, its plan priced, and its sheet with replace not offered;
+// sheets on which maintaining and renovating are taken; and faulty sheets.
+
+mod document;
+mod faulty;
+mod paper;
+mod planned;
+mod postponed;
+mod show;
+
+fn main() {
+    document::cases();
+    paper::replacements();
+    paper::none();
+    postponed::all_free();
+    postponed::maintained();
+    document::lengths();
+    faulty::sheets();
+}
