@@ -3,8 +3,8 @@
 use crate::show::heading;
 use crate::show::line;
 use crate::words::words_of;
+use case_sheets::lives;
 use case_sheets::paper::sheet;
-use case_sheets::put16;
 
 const REPLACE: usize = 189;
 
@@ -22,7 +22,7 @@ pub fn replacements() {
 }
 
 pub fn none() {
-    let s = put16(put16(sheet(), REPLACE, 0), REPLACE + 2, 0);
+    let s = lives(sheet(), REPLACE, 0, 0);
     let words = words_of(&s);
     heading(b"paper, replace not offered");
     line(words, 299);
