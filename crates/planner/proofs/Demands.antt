@@ -23,7 +23,7 @@ use Rattle.planner.specs.Promises.{RefusedTen, RefusedEleven, RefusedTwe
 use Rattle.planner.specs.Promises.{PricedAsPrinted, PrintedNear, ExactlyNotFar, Leaves}
 use Rattle.planner.proofs.PlanningLaws.{words-lent}
 use Rattle.planner.proofs.WayLaws.{way, ten-of, ten-when, eleven-of, eleven-when, twelve-of, twelve-when, zero-when, ample-when}
-use Rattle.planner.proofs.DoneLaws.{done, done-decode, done-field, done-bytes, done-sum, way-leaves}
+use Rattle.planner.proofs.DoneLaws.{done, done-sum, done-decode, done-count, done-field, done-bytes, done-length, way-leaves}
 
 module _ (s plan words : List ℕ) where
   abbrev number : ℕ
@@ -59,6 +59,7 @@ module _ (s plan words : List ℕ) where
       let same = done-decode s plan words d in
       let sum = done-sum s plan words d in
       record {
+        whole = omega (arith, d .room, done-count s plan words d, done-length s plan words d);
         chosen = subst (ChosenChain p) (sym same) (d .chosen);
         least = λ c h. rw sum (chosen-chain-le p (found p) (d .chosen) c h);
         only = λ c h. chosen-chain-only p c (found p) h (d .chosen) ∙ sym same;

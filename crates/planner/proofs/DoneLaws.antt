@@ -1,5 +1,5 @@
--- When a plan was written (`done`): the total answered is the chain's (`done-sum`), and from the buffer are read the chain (`done-decode`), its
--- total (`done-field`) and its bytes (`done-bytes`). What each way leaves of the buffers (`way-leaves`). Assumes nothing.
+-- When a plan was written (`done`): the total answered is the chain's (`done-sum`), and from the buffer, whose length is kept (`done-length`), are
+-- read the chain (`done-decode`), its count and total (`done-count`, `done-field`) and its bytes (`done-bytes`). What each way leaves of the buffers (`way-leaves`). Assumes nothing.
 use Prim.Native.Nat.{ℕ, _+_, _*_, _≤_}
 use mathlib.Core.Path.{_≡_, ap, _∙_}
 use mathlib.Core.List.{List}
@@ -60,7 +60,7 @@ module _ (s plan words : List ℕ) where
         ap (λ (l : List ℕ). getD l k 0) (d .written)
         ∙ written-behind plan (encode units chain) k (omega (arith, encode-length units chain, done-count))
 
-    done-length : length (planAfter s plan words) ≡ length plan
+    pub done-length : length (planAfter s plan words) ≡ length plan
     done-length = ap length (d .written) ∙ length-sets plan 0 (encode units chain)
 
   lent-length : Ready s words → length (wordsAfter s plan words) ≡ length words

@@ -50,10 +50,11 @@ abbrev pub AmpleAccepted : (s plan words : List ℕ) (number : ℕ) → Type 0
 AmpleAccepted s plan words number =
     Ready s words → 19 + 2 * sheetOf s .horizon ≤ length plan → (c : Chain) → Feasible (sheetOf s) c → number ≡ 0
 
--- The returned chain is the one that the written plan holds. It is feasible; no feasible chain has a smaller rounded total; of equal totals
--- it has the largest i, then the largest j, then the later end at the first replacement where they differ; it is the only such chain. The
--- printed total is its rounded total: the plan's total field and the total answered are one number.
+-- The returned chain is the one that the written plan holds; the plan lies whole in its buffer. The chain is feasible; no feasible chain has a
+-- smaller rounded total; of equal totals it has the largest i, then the largest j, then the later end at the first replacement where they
+-- differ; it is the only such chain. The printed total is its rounded total: the plan's total field and the total answered are one number.
 pub record Returned (p : PlanningSheet) (total : ℕ) (plan′ : List ℕ) : Type 0 where
+  pub whole : 19 + 2 * countField plan′ ≤ length plan′
   pub chosen : ChosenChain p (decode plan′)
   pub least : (c : Chain) → Feasible p c → total ≤ roundedTotal p c
   pub only : (c : Chain) → ChosenChain p c → c ≡ decode plan′

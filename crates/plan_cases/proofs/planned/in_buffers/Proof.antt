@@ -1,26 +1,7 @@
--- Lines are read from the plan only where it was written, and it then lies in its buffer (`plan-room`). Assumes nothing.
-use Prim.Native.Nat.{ℕ, _+_, _*_, _≤_}
-use mathlib.Core.Path.{_≡_, ap, sym, subst, _∙_}
-use mathlib.Core.List.{List}
-use native.Mathlib.Omega.{arith}
-use lib.ListN.{length}
+-- Lines are read from the plan only where it was written, and it then lies whole in its buffer. Assumes nothing.
 use borrow.Author.Needs.{needs}
-use Rattle.checking.specs.declared.Answer.{Answer}
-use Rattle.chain.specs.PlanBytes.{countField}
-use Rattle.planner.specs.Planning.{planAnswer, planAfter}
-use Rattle.planner.proofs.WayLaws.{way}
-use Rattle.planner.proofs.DoneLaws.{done, done-count, way-leaves}
 use Rattle.plan_cases.proofs.planned.in_buffers.Statement.{statement}
 use Rattle.plan_cases.proofs.planned.in_buffers.Tie as tie
-
-abbrev Room : List ℕ → Type 0
-Room plan = 19 + 2 * countField plan ≤ length plan
-
--- an accepted call leaves a plan of 19 + 2m bytes in its buffer
-plan-room : (s plan words : List ℕ) → planAnswer s plan words .number ≡ 0 → Room (planAfter s plan words)
-plan-room s plan words e =
-    let d = done s plan words e in
-    omega (arith, d .room, done-count s plan words d, way-leaves (way s plan words) .lengths .0)
 
 heading-requires : tie.Need-heading-requires
 heading-requires c κs = search needs
@@ -30,9 +11,8 @@ plan-requires c κs = search needs
 
 plan-lines-requires : tie.Need-plan-lines-requires
 plan-lines-requires c κs =
-    let h = c .before .before .before .before .before .before .before .plan .ensures in
-    let zero = ap (λ (a : Answer). a .number) (sym (h .0)) ∙ c .before .if1 .taken in
-    subst Room (sym (h .1 .0)) (plan-room _ _ _ zero)
+    let promises = c .before .before .before .before .before .before .before .plan .ensures .1 .1 .1 in
+    promises .1 .1 .1 .1 .1 .0 (c .before .if1 .taken) .whole
 
 refused-requires : tie.Need-refused-requires
 refused-requires c κs = search needs
