@@ -29,7 +29,8 @@ use Rattle.front.specs.Planned.{renovated, planned}
 use Rattle.front.specs.Front.{TailsLent, bestKept, TotalsHeld}
 
 -- an option from year y: maintain from 0, or renovate
-module _ (p : PlanningSheet) (fit : Fit (parsed p)) (option y : ℕ) (may : option ≤ 1) (from : (1 ≤ option) ⊎ (y ≡ 0)) (early : y ≤ p .horizon) where
+module _ (p : PlanningSheet) (fit : Fit (parsed p)) (option y : ℕ) (may : option ≤ 1) (from : (1 ≤ option) ⊎ (y ≡ 0))
+    (early : y ≤ p .horizon) where
   well : (e : ℕ) → y < e → e ≤ p .horizon → placed (p .horizon) option y e ≡ true
   well e late inside = placed-iff (p .horizon) option y e .1 (((omega arith, inside), omega arith), from)
 

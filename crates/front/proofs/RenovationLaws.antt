@@ -1,5 +1,6 @@
--- The totals and ends of renovating, written upward: those of the years before i in which maintaining may end are there (`Written`), one year
--- more (`written-next`), and, past the last such year, all (`written-all`). Totals leave room (`fits-none`, `fits-next`). Assumes nothing.
+-- The totals and ends of renovating, written upward: those of the years before i in which maintaining may end are there (`Written`), and with
+-- one year more (`written-next`); past its longest life or the horizon maintaining may not end (`may-end`). Totals leave room (`fits-none`,
+-- `fits-next`). Assumes nothing.
 use Prim.Native.Nat.{ℕ, _+_, _-_, _*_, _≤_, _<_, min, max}
 use mathlib.Core.Path.{_≡_, ap, sym, _∙_}
 use mathlib.Core.Bool.{true}
@@ -41,35 +42,30 @@ read-after P l i v e inside there elsewhere =
 abbrev Ends : (shortest e : ℕ) → Type 0
 Ends shortest e = (e ≡ 0) ⊎ (shortest ≤ e)
 
-pub record Written (p : PlanningSheet) (shortest i : ℕ) (totals ends : List ℕ) : Type 0 where
-  pub totalAt : (e : ℕ) → e < i → Ends shortest e → wordOf totals e ≡ renovated p e .total
-  pub endAt : (e : ℕ) → e < i → Ends shortest e → getD ends e 0 ≡ firstOf (renovated p e .ends)
+-- the total and the end of renovating from a year are written
+abbrev pub RenovatedAt : PlanningSheet → (totals ends : List ℕ) (e : ℕ) → Type 0
+RenovatedAt p totals ends e = (wordOf totals e ≡ renovated p e .total) × (getD ends e 0 ≡ firstOf (renovated p e .ends))
+
+abbrev pub Written : PlanningSheet → (shortest i : ℕ) (totals ends : List ℕ) → Type 0
+Written p shortest i totals ends = (e : ℕ) → e < i → Ends shortest e → RenovatedAt p totals ends e
 
 -- a year before the next to be written is one before i, or i
 before-next : (shortest i next e : ℕ) → next ≡ max (i + 1) shortest → e < next → Ends shortest e → (e ≡ i → ⊥) → e < i
 before-next shortest i next e same early may other = ⊎-elim (λ z. omega arith) (λ l. omega arith) may
 
 module _ (p : PlanningSheet) (shortest : ℕ) where
-  pub written-none : (totals ends : List ℕ) → Written p shortest 0 totals ends
-  written-none totals ends = record { totalAt = λ e l m. absurd (omega arith); endAt = λ e l m. absurd (omega arith) }
-
   pub written-next :
       (totals ends : List ℕ) (i next : ℕ) (best : Best) → Written p shortest i totals ends → i < length totals → i < length ends
       → best ≡ shown (renovated p i) → next ≡ max (i + 1) shortest
       → Written p shortest next (set totals i (best .total)) (set ends i (best .end))
-  written-next totals ends i next best h inside within read same =
-      record {
-        totalAt =
-            λ e l m.
-            read-after (λ (v : ℕ). v ≡ renovated p e .total) totals i (best .total) e inside
-            (λ (q : e ≡ i). ap (λ (b : Best). b .total) read ∙ ap (λ (y : ℕ). renovated p y .total) (sym q))
-            (λ other. h .totalAt e (before-next shortest i next e same l m other) m);
-        endAt =
-            λ e l m.
-            read-after (λ (v : ℕ). v ≡ firstOf (renovated p e .ends)) ends i (best .end) e within
-            (λ (q : e ≡ i). ap (λ (b : Best). b .end) read ∙ ap (λ (y : ℕ). firstOf (renovated p y .ends)) (sym q))
-            (λ other. h .endAt e (before-next shortest i next e same l m other) m);
-      }
+  written-next totals ends i next best h inside within read same e l m = (
+    read-after (λ (v : ℕ). v ≡ renovated p e .total) totals i (best .total) e inside
+        (λ (q : e ≡ i). ap (λ (b : Best). b .total) read ∙ ap (λ (y : ℕ). renovated p y .total) (sym q))
+        (λ other. h e (before-next shortest i next e same l m other) m .0),
+    read-after (λ (v : ℕ). v ≡ firstOf (renovated p e .ends)) ends i (best .end) e within
+        (λ (q : e ≡ i). ap (λ (b : Best). b .end) read ∙ ap (λ (y : ℕ). firstOf (renovated p y .ends)) (sym q))
+        (λ other. h e (before-next shortest i next e same l m other) m .1),
+  )
 
 -- the years in which maintaining may end: none is past its longest life or the horizon
 pub may-end :
@@ -90,8 +86,8 @@ pub fits-none : (T : ℕ) (totals : List ℕ) → T ≤ 300 → NoTotals totals 
 fits-none T totals short none e late inside some = absurd (some (none e (omega arith)))
 
 pub fits-next :
-    (p : PlanningSheet) → Fit (parsed p) → (T : ℕ) (totals : List ℕ) (i total : ℕ) → T ≡ p .horizon → i < length totals → total ≡ renovated p i .total
-    → WordsFit T 0 totals → WordsFit T 0 (set totals i total)
+    (p : PlanningSheet) → Fit (parsed p) → (T : ℕ) (totals : List ℕ) (i total : ℕ) → T ≡ p .horizon → i < length totals
+    → total ≡ renovated p i .total → WordsFit T 0 totals → WordsFit T 0 (set totals i total)
 fits-next p fit T totals i total same inside read fits e late within =
     read-after (λ (v : ℕ). (v ≡ noTotal → ⊥) → v ≤ (T - e) * yearly) totals i total e inside
     (λ (q : e ≡ i) some. let most = renovated-le p fit i (λ z. some (read ∙ z)) in rw (read, same, q) most) (λ other. fits e late within)

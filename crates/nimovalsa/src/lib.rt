@@ -58,7 +58,8 @@ pub extern "C" fn nimovalsa_price(sheet: &[u8], plan: &[u8]) -> u64
     pack(chain::price(sheet, plan))
 }
 
-// Planning: the rounded total of the chosen chain in units, and the number and the option of the refusal table; the plan and the words are written.
+// Planning: the rounded total of the chosen chain in units, and the number and the option of the refusal table. The plan of the chain is
+// written, and the words.
 #[no_mangle]
 pub extern "C" fn nimovalsa_plan(sheet: &[u8], plan: &mut [u8], words: &mut [u64]) -> u64
     ensures answer { λ r. ⌜ Returns r (planAnswer (now (sheet .entry)) (now (plan .entry)) (now (words .entry))) ⌝ }

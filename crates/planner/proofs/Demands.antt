@@ -14,7 +14,6 @@ use Rattle.chain.specs.Pricing.{priced}
 use Rattle.chain.specs.Error.{TotalNear}
 use Rattle.chain.proofs.PriceLaws.{priced-encode}
 use Rattle.chain.proofs.ErrorOfChain.{total-near, chain-loss}
-use Rattle.tails.specs.Cheapest.{CheapestWords}
 use Rattle.tails.proofs.WordLaws.{words-cheapest-of-passes}
 use Rattle.front.specs.ChosenChain.{ChosenChain}
 use Rattle.front.proofs.PlannedLaws.{chosen-chain-le, chosen-chain-only}
@@ -70,7 +69,8 @@ module _ (s plan words : List ℕ) where
   -- the words
   lends-cheapest : LendsCheapest s words (wordsAfter s plan words)
   lends-cheapest h =
-      subst (CheapestWords (sheetOf s) words) (sym (words-lent s plan words (checked-iff s .1 (h .passes)) (h .enough))) (words-cheapest-of-passes s (h .passes) words (h .enough))
+      let lent = words-lent s plan words (checked-iff s .1 (h .passes)) (h .enough) in
+      rw lent (words-cheapest-of-passes s (h .passes) words (h .enough))
 
   -- pricing what was written
   priced-as-printed : PricedAsPrinted s number total plan′
@@ -117,11 +117,8 @@ pub promised :
     (s plan words : List ℕ) {number total : ℕ} {plan′ words′ : List ℕ}
     → number ≡ planAnswer s plan words .number → total ≡ planAnswer s plan words .total
     → plan′ ≡ planAfter s plan words → words′ ≡ wordsAfter s plan words → Promised s plan words number total plan′ words′
-promised s plan words {number} {total} {plan′} {words′} n t b w =
-    subst (λ (k : ℕ). Promised s plan words k total plan′ words′) (sym n)
-    (subst (λ (k : ℕ). Promised s plan words (planAnswer s plan words .number) k plan′ words′) (sym t)
-    (subst (λ (l : List ℕ). Promised s plan words (planAnswer s plan words .number) (planAnswer s plan words .total) l words′) (sym b)
-    (subst (λ (l : List ℕ). Promised s plan words (planAnswer s plan words .number) (planAnswer s plan words .total) (planAfter s plan words) l) (sym w) (
+promised s plan words n t b w =
+    rw (n, t, b, w) (
       refused-ten s plan words,
       (
         refused-eleven s plan words,
@@ -142,7 +139,7 @@ promised s plan words {number} {total} {plan′} {words′} n t b w =
           ),
         ),
       ),
-    ))))
+    )
 
 pub met :
     (s plan words : List ℕ) {r : Answer} {plan′ words′ : List ℕ}

@@ -1,5 +1,6 @@
--- When a plan was written (`done`): the total answered is the chain's (`done-sum`), and from the buffer, whose length is kept (`done-length`), are
--- read the chain (`done-decode`), its count and total (`done-count`, `done-field`) and its bytes (`done-bytes`). What each way leaves of the buffers (`way-leaves`). Assumes nothing.
+-- When a plan was written (`done`): the total answered is the chain's (`done-sum`); from the buffer, whose length is kept (`done-length`), the
+-- chain is read (`done-decode`), its count and total (`done-count`, `done-field`) and its bytes (`done-bytes`). What each way leaves of the
+-- buffers (`way-leaves`). Assumes nothing.
 use Prim.Native.Nat.{ℕ, _+_, _*_, _≤_}
 use mathlib.Core.Path.{_≡_, ap, _∙_}
 use mathlib.Core.List.{List}

@@ -75,7 +75,9 @@ loop-again c =
       omega (arith, later c),
       omega (arith, a .loop .inv .1, later c),
       simp length-set (a .loop .inv .2),
-      λ p read. reached-next p _ _ _ (a .loop .count) (a .loop .ends) (a .loop .inv .3 p read) (room c) (next c p read _ (omega (arith, later c))),
+      λ p read.
+          reached-next p _ _ _ (a .loop .count) (a .loop .ends) (a .loop .inv .3 p read) (room c)
+          (next c p read _ (omega (arith, later c))),
     )
 
 returns : tie.Need-returns Inv-loop μ-loop

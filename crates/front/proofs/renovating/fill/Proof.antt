@@ -1,5 +1,6 @@
 -- Renovating from each year in which maintaining may end: the years before i are written, and no total is too large. Assumes nothing.
-use Prim.Native.Nat.{_-_, _≤_, _<_}
+use mathlib.Core.Bool.{true}
+use Prim.Native.Nat.{ℕ, _-_, _≤_, _<_}
 use mathlib.Core.Path.{_≡_, refl, ap, subst}
 use native.Mathlib.Omega.{arith}
 use lib.ListN.{length, length-set}
@@ -10,6 +11,7 @@ use Rattle.sheet.specs.declared.Sheet.{Sheet}
 use Rattle.sheet.proofs.ParsedLaws.{horizon-read}
 use Rattle.checking.specs.Fit.{Fit}
 use Rattle.costing.proofs.SheetArcLaws.{keptOf-fits}
+use Rattle.costing.specs.Offered.{offered}
 use Rattle.chain.specs.Chain.{maintain, renovate}
 use Rattle.tails.specs.Best.{shown, WordsFit}
 use Rattle.tails.specs.declared.Best.{Best}
@@ -17,7 +19,7 @@ use Rattle.tails.proofs.EndLaws.{noTerms}
 use Rattle.tails.proofs.SheetEndLaws.{words-fit}
 use Rattle.front.specs.Planned.{renovated}
 use Rattle.front.proofs.KeptLaws.{renovated-best}
-use Rattle.front.proofs.RenovationLaws.{Written, written-none, written-next, may-end, fits-none, fits-next}
+use Rattle.front.proofs.RenovationLaws.{RenovatedAt, Written, written-next, may-end, fits-none, fits-next}
 use borrow.Author.Needs.{needs}
 use Rattle.front.proofs.renovating.fill.Statement.{statement}
 use Rattle.front.proofs.renovating.fill.Tie as tie
@@ -57,7 +59,9 @@ chosen c p read =
     (inside (c .before)) (c .best-from .ensures)
 
 -- there is a place for it
-room : (c : tie.In-loop Inv-loop μ-loop) → (c .before .loop .i < length (c .before .loop .totals)) × (c .before .loop .i < length (c .before .loop .ends))
+room :
+    (c : tie.In-loop Inv-loop μ-loop)
+    → (c .before .loop .i < length (c .before .loop .totals)) × (c .before .loop .i < length (c .before .loop .ends))
 room c =
     let a = c .before in
     let s = start a in (
@@ -71,30 +75,40 @@ loop-again c =
     let a = b .before .before in
     let s = start a in
     let some = s .pre .0 .1 in
+    let T = horizon-read (sheet a) (some .0) (some .1) in
+    let terms = s .pre .0 .0 .options maintain noTerms (omega arith) in
     let places = room (b .before) in (
-      omega (arith, c .most .ensures, inside (b .before), short s, s .pre .0 .0 .options maintain noTerms (omega arith) .lives, s .pre .0 .0 .options maintain noTerms (omega arith) .longest),
+      omega (arith, c .most .ensures, inside (b .before), short s, terms .lives, terms .longest),
       simp length-set (a .loop .inv .1),
       simp length-set (a .loop .inv .2),
       λ p read.
-          written-next p _ (a .loop .totals) (a .loop .ends) (a .loop .i) _ (b .best-from .result) (a .loop .inv .3 p read) (places .0) (places .1)
-          (chosen b p read) (c .most .ensures),
-      fits-next (some .0) (subst Fit (some .1) (s .pre .0 .0)) (sheet a .horizon) (a .loop .totals) (a .loop .i) _
-          (horizon-read (sheet a) (some .0) (some .1)) (places .0) (ap (λ (best : Best). best .total) (chosen b (some .0) (some .1))) (a .loop .inv .4),
+          written-next p _ (a .loop .totals) (a .loop .ends) (a .loop .i) _ (b .best-from .result) (a .loop .inv .3 p read)
+          (places .0) (places .1) (chosen b p read) (c .most .ensures),
+      fits-next (some .0) (subst Fit (some .1) (s .pre .0 .0)) (sheet a .horizon) (a .loop .totals) (a .loop .i) _ T (places .0)
+          (ap (λ (best : Best). best .total) (chosen b (some .0) (some .1))) (a .loop .inv .4),
     )
+
+-- the years in which maintaining may end are all written
+all :
+    (c : tie.After-loop Inv-loop μ-loop) (p : PlanningSheet) → sheet (c .before) ≡ parsed p
+    → (i : ℕ) → offered p maintain 0 i ≡ true → RenovatedAt p (c .before .loop .totals) (c .before .loop .ends) i
+all c p read i on =
+    let a = c .before in
+    let may = may-end p (sheet a) noTerms read _ (a .loop .i) (a .before .least .ensures) (omega arith) i on in
+    a .loop .inv .3 p read i (may .0) (may .1)
 
 returns : tie.Need-returns Inv-loop μ-loop
 returns c =
     let a = c .before in
-    let s = start a in
-    let last = a .before .least .ensures in (
+    let s = start a in (
       record {
         room = omega (arith, a .loop .inv .1, s .pre .1 .1 .1);
-        held = λ p read i on. let m = may-end p (sheet a) noTerms read _ (a .loop .i) last (omega arith) i on in a .loop .inv .3 p read .totalAt i (m .0) (m .1);
+        held = λ p read i on. all c p read i on .0;
         fits = a .loop .inv .4;
       },
       record {
         room = omega (arith, a .loop .inv .2, s .pre .1 .1 .2);
-        held = λ p read i on. let m = may-end p (sheet a) noTerms read _ (a .loop .i) last (omega arith) i on in a .loop .inv .3 p read .endAt i (m .0) (m .1);
+        held = λ p read i on. all c p read i on .1;
       },
     )
 
@@ -113,7 +127,7 @@ loop-holds c =
       omega arith,
       refl,
       refl,
-      λ p read. written-none p _ _ _,
+      λ p read e early may. absurd (omega arith),
       fits-none (s .args .t6 .horizon) (now (s .args .totals)) (short s) (s .pre .1 .1 .0),
     )
 

@@ -1,6 +1,5 @@
 -- The ends that are read lie in the plan. Assumes nothing.
 use Prim.Native.Nat.{_≤_, _-_}
-use native.Mathlib.Omega.{arith}
 use borrow.Author.Needs.{needs}
 use Rattle.plan_cases.proofs.show.replacements.Statement.{statement}
 use Rattle.plan_cases.proofs.show.replacements.Tie as tie
