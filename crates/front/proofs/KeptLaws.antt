@@ -1,7 +1,8 @@
 -- The choice of the end of maintaining or renovating on the terms of the option is the one that the rules give (`kept-best`): by the lent words
--- it is that of renovating (`renovated-best`), by the totals of renovating that of maintaining (`planned-best`). Assumes nothing.
+-- it is that of renovating (`renovated-best`), by the totals of renovating that of maintaining (`planned-best`). What the choice of an end asks
+-- holds with what is lent (`lent-asks`). Assumes nothing.
 use Prim.Native.Nat.{ℕ, suc, _+_, _-_, _≤_, _<_}
-use mathlib.Core.Path.{_≡_, refl, ap, sym, _∙_}
+use mathlib.Core.Path.{subst, _≡_, refl, ap, sym, _∙_}
 use mathlib.Core.Bool.{true}
 use mathlib.Core.List.{List}
 use mathlib.Core.Logic.{_⊎_, inl, inr, ⊎-elim}
@@ -9,22 +10,27 @@ use native.Mathlib.Nat.{add-zero, le-refl}
 use native.Mathlib.Numerals.{add-one}
 use native.Mathlib.Omega.{arith}
 use Rattle.sheet.specs.Sheet.{PlanningSheet}
-use Rattle.sheet.specs.Parsed.{parsed}
+use lib.ListN.{length}
+use Rattle.division.specs.declared.Divisor.{Divisor}
+use Rattle.sheet.specs.Parsed.{parsed, IsParsed}
 use Rattle.sheet.specs.declared.Sheet.{Sheet}
 use Rattle.sheet.specs.declared.Terms.{Terms}
 use Rattle.sheet.proofs.ParsedLaws.{horizon-read}
 use Rattle.checking.specs.Fit.{Fit}
+use Rattle.costing.specs.Fit.{KeptFits, Divides}
 use Rattle.costing.specs.Offered.{placed, offered}
 use Rattle.costing.proofs.OfferedLaws.{placed-iff, offered-iff}
-use Rattle.costing.proofs.SheetArcLaws.{keptOf, kept-read, cost-le}
+use Rattle.costing.proofs.SheetArcLaws.{keptOf, keptOf-fits, kept-read, cost-le}
 use Rattle.chain.specs.Chain.{maintain, renovate}
+use Rattle.streams.specs.Streams.{Streams}
 use Rattle.choice.specs.Running.{Entry, noEntry, weigh, over}
 use Rattle.choice.proofs.RunningLaws.{over-zero, over-offered, over-first}
 use Rattle.tails.specs.Tail.{costTo, bestEnd, tail}
-use Rattle.tails.specs.Best.{shown, weighed, bestOver, mayEnd, keptCost, wordOf}
+use Rattle.tails.specs.Best.{shown, weighed, bestOver, mayEnd, keptCost, wordOf, WordsFit, Lent}
 use Rattle.tails.specs.declared.Best.{Best}
 use Rattle.tails.proofs.BestLaws.{weigh-shown}
-use Rattle.tails.proofs.SheetEndLaws.{ends-over}
+use Rattle.tails.proofs.EndLaws.{noTerms}
+use Rattle.tails.proofs.SheetEndLaws.{ends-over, words-fit}
 use Rattle.front.specs.Planned.{renovated, planned}
 use Rattle.front.specs.Front.{TailsLent, bestKept, TotalsHeld}
 
@@ -95,3 +101,24 @@ module _ (p : PlanningSheet) (fit : Fit (parsed p)) (s : Sheet) (other : Terms) 
   unfolding planned
   planned-best totals h =
       kept-best p fit maintain 0 (omega arith) (inr refl) (omega arith) (renovated p) s other read (wordOf totals) (h .held p read)
+
+-- what is asked of an option that is kept from a year within the horizon, with what is lent for it and by the lent words
+pub lent-asks :
+    (s : Sheet) → Fit s → IsParsed s → (d : Divisor) → Divides d (s .discount)
+    → (option y : ℕ) (streams ages words : List ℕ) → option ≤ 2 → Lent s option streams ages → TailsLent s words → y ≤ s .horizon
+    → let a = keptOf s noTerms option y in
+    (KeptFits a × Divides d (a .discount) × (ages ≡ a .terms .overhauls .ages))
+    × ((Streams (a .discount) (a .terms) (s .horizon) streams × (y ≤ s .horizon) × (s .horizon ≤ 300))
+    × ((s .horizon < length words) × WordsFit (s .horizon) y words))
+lent-asks s fit some d divides option y streams ages words known lent held early =
+    let T = horizon-read s (some .0) (some .1) in (
+      (keptOf-fits s fit noTerms option y known early, divides, lent noTerms .1),
+      (
+        (lent noTerms .0, early, fit .horizonHigh),
+        (
+          omega (arith, fit .horizonHigh, held .room),
+          words-fit (some .0) (subst Fit (some .1) fit) (s .horizon) y words T
+              (λ e late within. held .totals (some .0) (some .1) e (omega (arith, T))),
+        ),
+      ),
+    )

@@ -1,6 +1,6 @@
 -- The ends one after the other: the year that is reached rises, and what is written and the ends from there are those from j. Assumes nothing.
 use Prim.Native.Nat.{ℕ, _-_, _≤_, _<_}
-use mathlib.Core.Path.{_≡_, refl, ap, subst, _∙_}
+use mathlib.Core.Path.{_≡_, refl, ap, _∙_}
 use native.Mathlib.Omega.{arith}
 use lib.ListN.{length, length-set}
 use denote.Ref.{now}
@@ -8,13 +8,12 @@ use Rattle.sheet.specs.Sheet.{PlanningSheet}
 use Rattle.sheet.specs.Parsed.{parsed}
 use Rattle.sheet.specs.declared.Sheet.{Sheet}
 use Rattle.sheet.proofs.ParsedLaws.{horizon-read}
-use Rattle.checking.specs.Fit.{Fit}
-use Rattle.costing.proofs.SheetArcLaws.{keptOf-fits}
 use Rattle.chain.specs.Chain.{replace}
 use Rattle.tails.specs.Best.{wordOf}
 use Rattle.tails.specs.declared.Best.{Best}
 use Rattle.tails.proofs.EndLaws.{noTerms}
-use Rattle.tails.proofs.SheetEndLaws.{tail-best, words-fit}
+use Rattle.tails.proofs.SheetEndLaws.{tail-best}
+use Rattle.front.proofs.KeptLaws.{lent-asks}
 use Rattle.front.proofs.TakenLaws.{Next, tail-next}
 use Rattle.front.proofs.FollowLaws.{Reached, reached-first, reached-next, reached-last}
 use borrow.Author.Needs.{needs}
@@ -105,21 +104,8 @@ loop-holds c =
 best-end-requires : tie.Need-best-end-requires Inv-loop μ-loop
 best-end-requires c κs =
     let a = c .before in
-    let s = start a in
-    let some = s .pre .0 .1 in
-    let lent = s .pre .1 .0 .0 noTerms in
-    let held = s .pre .1 .0 .1 in
-    let T = horizon-read (sheet a) (some .0) (some .1) in (
-      (keptOf-fits (sheet a) (s .pre .0 .0) noTerms replace (a .loop .year) (omega arith) (a .loop .inv .0), s .pre .0 .2, lent .1),
-      (
-        (lent .0, a .loop .inv .0, short s),
-        (
-          omega (arith, short s, held .room),
-          words-fit (some .0) (subst Fit (some .1) (s .pre .0 .0)) (sheet a .horizon) (a .loop .year) (now (s .args .words)) T
-              (λ e late within. held .totals (some .0) (some .1) e (omega (arith, T))),
-        ),
-      ),
-    )
+    let h = start a .pre in
+    lent-asks (sheet a) (h .0 .0) (h .0 .1) _ (h .0 .2) replace (a .loop .year) _ _ _ (omega arith) (h .1 .0 .0) (h .1 .0 .1) (a .loop .inv .0)
 
 mul-ends : tie.Need-mul-ends Inv-loop μ-loop
 mul-ends c = let a = c .before .before in omega (arith, a .loop .inv .0, a .loop .inv .1, short (start a))

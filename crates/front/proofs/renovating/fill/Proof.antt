@@ -10,15 +10,13 @@ use Rattle.sheet.specs.Parsed.{parsed}
 use Rattle.sheet.specs.declared.Sheet.{Sheet}
 use Rattle.sheet.proofs.ParsedLaws.{horizon-read}
 use Rattle.checking.specs.Fit.{Fit}
-use Rattle.costing.proofs.SheetArcLaws.{keptOf-fits}
 use Rattle.costing.specs.Offered.{offered}
 use Rattle.chain.specs.Chain.{maintain, renovate}
 use Rattle.tails.specs.Best.{shown, WordsFit}
 use Rattle.tails.specs.declared.Best.{Best}
 use Rattle.tails.proofs.EndLaws.{noTerms}
-use Rattle.tails.proofs.SheetEndLaws.{words-fit}
 use Rattle.front.specs.Planned.{renovated}
-use Rattle.front.proofs.KeptLaws.{renovated-best}
+use Rattle.front.proofs.KeptLaws.{renovated-best, lent-asks}
 use Rattle.front.proofs.RenovationLaws.{RenovatedAt, Written, written-next, may-end, fits-none, fits-next}
 use borrow.Author.Needs.{needs}
 use Rattle.front.proofs.renovating.fill.Statement.{statement}
@@ -134,21 +132,8 @@ loop-holds c =
 best-from-requires : tie.Need-best-from-requires Inv-loop μ-loop
 best-from-requires c κs =
     let a = c .before in
-    let s = start a in
-    let some = s .pre .0 .1 in
-    let lent = s .pre .1 .0 .0 noTerms in
-    let held = s .pre .1 .0 .1 in
-    let T = horizon-read (sheet a) (some .0) (some .1) in (
-      (keptOf-fits (sheet a) (s .pre .0 .0) noTerms renovate (a .loop .i) (omega arith) (inside c), s .pre .0 .2, lent .1),
-      (
-        (lent .0, inside c, short s),
-        (
-          omega (arith, short s, held .room),
-          words-fit (some .0) (subst Fit (some .1) (s .pre .0 .0)) (sheet a .horizon) (a .loop .i) (now (s .args .words)) T
-              (λ e late within. held .totals (some .0) (some .1) e (omega (arith, T))),
-        ),
-      ),
-    )
+    let h = start a .pre in
+    lent-asks (sheet a) (h .0 .0) (h .0 .1) _ (h .0 .2) renovate (a .loop .i) _ _ _ (omega arith) (h .1 .0 .0) (h .1 .0 .1) (inside c)
 
 mul-totals : tie.Need-mul-totals Inv-loop μ-loop
 mul-totals c = omega (arith, inside (c .before), short (start (c .before .before)))
