@@ -38,6 +38,9 @@
  *            included
  *   total    the total or cost; 0 with a refusal, and 0 from a call that
  *            answers neither
+ *
+ * The calls use no heap and keep nothing. Of other code the archive calls
+ * memcpy and memset alone.
  */
 #ifndef NIMOVALSA_H
 #define NIMOVALSA_H

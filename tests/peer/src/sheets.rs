@@ -80,7 +80,8 @@ pub fn frequent_sheet(random: &mut Random) -> Vec<u8> {
     sheet
 }
 
-const RATES: [Field; 6] = [
+/// Every rate of an option.
+pub const RATES: [Field; 6] = [
     INVESTMENT_INFLATION,
     MAINTENANCE_INFLATION,
     MAINTENANCE_AGEING,

@@ -9,6 +9,7 @@ use crate::plan::{written, Chain};
 use crate::price::{self, price};
 use crate::price_fast::price_fast;
 use crate::sheet::*;
+use crate::sheets::RATES;
 use std::hint::black_box;
 use std::time::Instant;
 
@@ -32,15 +33,7 @@ struct Pair<'a> {
 fn long_lived_sheet() -> Vec<u8> {
     let mut sheet = with_head(300, 40_000);
     let amounts = [INVESTMENT, MAINTENANCE, ELECTRICITY].map(|inner| (inner, 1_000_000_000));
-    let rates = [
-        INVESTMENT_INFLATION,
-        MAINTENANCE_INFLATION,
-        MAINTENANCE_AGEING,
-        ELECTRICITY_INFLATION,
-        ELECTRICITY_AGEING,
-        OVERHAUL_INFLATION,
-    ];
-    let rates = rates.map(|inner| (inner, 10_000));
+    let rates = RATES.map(|inner| (inner, 10_000));
     let limits = [(SHORTEST, 1), (LONGEST, 120), (OVERHAUL_COUNT, 8)];
     let overhauls = (0..8).flat_map(|entry| {
         let age = 14 + 15 * entry as i64;
