@@ -17,7 +17,7 @@ ghost use Rattle.chain.specs.Pricing.{priced, PricedAt};
 ghost use Rattle.chain.specs.Error.{TotalNear};
 ghost use Rattle.planner.specs.Planning.{planAnswer, planAfter, wordsAfter};
 ghost use Rattle.planner.specs.Promises.{RefusedTen, RefusedEleven, RefusedTwelve, AcceptedWhen, AmpleAccepted};
-ghost use Rattle.planner.specs.Promises.{ReturnsChosen, LendsCheapest, PricedAsPrinted, PrintedNear, ExactlyNotFar, Leaves};
+ghost use Rattle.planner.specs.Promises.{ReturnsChosen, LendsCheapest, PricedAsPrinted, PrintedNear, NoneFarBelow, Leaves};
 ghost use Rattle.nimovalsa.specs.Packed.{totalIn, numberIn, Returns};
 use checking::Answer;
 
@@ -74,7 +74,7 @@ pub extern "C" fn nimovalsa_plan(sheet: &[u8], plan: &mut [u8], words: &mut [u64
     ensures cheapest { λ _. ⌜ LendsCheapest (now (sheet .entry)) (now (words .entry)) (now (words .exit)) ⌝ }
     ensures priced { λ r. ⌜ PricedAsPrinted (now (sheet .entry)) (numberIn r) (totalIn r) (now (plan .exit)) ⌝ }
     ensures near { λ r. ⌜ PrintedNear (now (sheet .entry)) (numberIn r) (totalIn r) (now (plan .exit)) ⌝ }
-    ensures far { λ r. ⌜ ExactlyNotFar (now (sheet .entry)) (numberIn r) (now (plan .exit)) ⌝ }
+    ensures far { λ r. ⌜ NoneFarBelow (now (sheet .entry)) (numberIn r) (now (plan .exit)) ⌝ }
     ensures left { λ r. ⌜ Leaves (numberIn r) (now (plan .entry)) (now (words .entry)) (now (plan .exit)) (now (words .exit)) ⌝ }
 {
     pack(planner::plan(sheet, plan, words))

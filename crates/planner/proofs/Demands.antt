@@ -1,5 +1,5 @@
--- The promises of planning, in the mission's order, for every sheet and all buffers: `specs/Promises` says what they mean, `WayLaws` why they
--- hold. Assumes nothing.
+-- The promises of planning, in the order of `specs/Promises`, which says what they mean, for every sheet and all buffers (`promised`); `WayLaws`
+-- and `DoneLaws` have why they hold. A call that meets its three equations meets them all (`met`). Assumes nothing.
 use Prim.Native.Nat.{ℕ}
 use mathlib.Core.Path.{_≡_, ap, sym, subst, _∙_}
 use mathlib.Core.List.{List}
@@ -19,7 +19,7 @@ use Rattle.front.specs.ChosenChain.{ChosenChain}
 use Rattle.front.proofs.PlannedLaws.{chosen-chain-le, chosen-chain-only}
 use Rattle.planner.specs.Planning.{found, planAnswer, planAfter, wordsAfter}
 use Rattle.planner.specs.Promises.{RefusedTen, RefusedEleven, RefusedTwelve, AcceptedWhen, AmpleAccepted, ReturnsChosen, LendsCheapest}
-use Rattle.planner.specs.Promises.{PricedAsPrinted, PrintedNear, ExactlyNotFar, Leaves}
+use Rattle.planner.specs.Promises.{PricedAsPrinted, PrintedNear, NoneFarBelow, Leaves}
 use Rattle.planner.proofs.PlanningLaws.{words-lent}
 use Rattle.planner.proofs.WayLaws.{way, ten-of, ten-when, eleven-of, eleven-when, twelve-of, twelve-when, zero-when, ample-when}
 use Rattle.planner.proofs.DoneLaws.{done, done-sum, done-decode, done-count, done-field, done-bytes, done-length, way-leaves}
@@ -88,8 +88,8 @@ module _ (s plan words : List ℕ) where
       subst (λ (c : Chain). TotalNear p c total) (sym (done-decode s plan words d))
       (subst (TotalNear p (found p)) (sym (done-sum s plan words d)) (total-near p (fit s (d .ready .passes)) (found p) (d .chosen .feasible)))
 
-  exactly-not-far : ExactlyNotFar s number plan′
-  exactly-not-far e c h =
+  none-far-below : NoneFarBelow s number plan′
+  none-far-below e c h =
       let p = sheetOf s in
       let d = done s plan words e in
       rw (done-decode s plan words d)
@@ -111,7 +111,7 @@ Promised s plan words number total plan′ words′ =
     × (LendsCheapest s words words′
     × (PricedAsPrinted s number total plan′
     × (PrintedNear s number total plan′
-    × (ExactlyNotFar s number plan′ × Leaves number plan words plan′ words′)))))))))
+    × (NoneFarBelow s number plan′ × Leaves number plan words plan′ words′)))))))))
 
 pub promised :
     (s plan words : List ℕ) {number total : ℕ} {plan′ words′ : List ℕ}
@@ -132,7 +132,7 @@ promised s plan words n t b w =
                 returns-chosen s plan words,
                 (
                   lends-cheapest s plan words,
-                  (priced-as-printed s plan words, (printed-near s plan words, (exactly-not-far s plan words, leaves s plan words))),
+                  (priced-as-printed s plan words, (printed-near s plan words, (none-far-below s plan words, leaves s plan words))),
                 ),
               ),
             ),

@@ -5,7 +5,7 @@
 --     WayLaws: the ways in which planning ends, and which number comes from which
 --     DoneLaws: what is read from the buffer when a plan was written; what each way leaves
 --     RangeLaws: the range of what is answered
---     Demands: the promises, in the mission's order
+--     Demands: the promises, each a citation
 pub mod CaseLaws
 pub mod PlanningLaws
 pub mod FoundLaws

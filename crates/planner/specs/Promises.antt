@@ -1,5 +1,5 @@
--- What is owed of every call of planning, for every sheet and all buffers, whatever they held: document 01, the mission's demand 3 and the part
--- of demand 2 that is about planning. Each is an `ensures` of the call and of its C form. In them:
+-- What is owed of every call of planning, for every sheet and all buffers, whatever they held: demand 3, and what demand 2 says of planning.
+-- Each is an `ensures` of the call and of its C form. In them:
 --     s, plan, words      the sheet, and what the plan buffer and the lent words held before the call
 --     number, total      what was answered
 --     plan′, words′      what the buffers hold after the call
@@ -77,8 +77,8 @@ abbrev pub PrintedNear : (s : List ℕ) (number total : ℕ) (plan′ : List ℕ
 PrintedNear s number total plan′ = number ≡ 0 → TotalNear (sheetOf s) (decode plan′) total
 
 -- no feasible chain's exact value is more than (5T² + 3T)/2 units below the returned one's: both sides times 4 and the common denominator
-abbrev pub ExactlyNotFar : (s : List ℕ) (number : ℕ) (plan′ : List ℕ) → Type 0
-ExactlyNotFar s number plan′ =
+abbrev pub NoneFarBelow : (s : List ℕ) (number : ℕ) (plan′ : List ℕ) → Type 0
+NoneFarBelow s number plan′ =
     let p = sheetOf s in
     number ≡ 0
     → (c : Chain) → Feasible p c

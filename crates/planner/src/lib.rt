@@ -3,7 +3,7 @@
 ghost use mathlib.Core.Path.{_≡_};
 ghost use Rattle.planner.specs.Planning.{planAnswer, planAfter, wordsAfter};
 ghost use Rattle.planner.specs.Promises.{RefusedTen, RefusedEleven, RefusedTwelve, AcceptedWhen, AmpleAccepted};
-ghost use Rattle.planner.specs.Promises.{ReturnsChosen, LendsCheapest, PricedAsPrinted, PrintedNear, ExactlyNotFar, Leaves};
+ghost use Rattle.planner.specs.Promises.{ReturnsChosen, LendsCheapest, PricedAsPrinted, PrintedNear, NoneFarBelow, Leaves};
 use checking::Answer;
 
 mod written;
@@ -22,7 +22,7 @@ pub fn plan(sheet: &[u8], plan: &mut [u8], words: &mut [u64]) -> Answer
     ensures cheapest { λ _. ⌜ LendsCheapest (now (sheet .entry)) (now (words .entry)) (now (words .exit)) ⌝ }
     ensures priced { λ r. ⌜ PricedAsPrinted (now (sheet .entry)) (r .number) (r .total) (now (plan .exit)) ⌝ }
     ensures near { λ r. ⌜ PrintedNear (now (sheet .entry)) (r .number) (r .total) (now (plan .exit)) ⌝ }
-    ensures far { λ r. ⌜ ExactlyNotFar (now (sheet .entry)) (r .number) (now (plan .exit)) ⌝ }
+    ensures far { λ r. ⌜ NoneFarBelow (now (sheet .entry)) (r .number) (now (plan .exit)) ⌝ }
     ensures left { λ r. ⌜ Leaves (r .number) (now (plan .entry)) (now (words .entry)) (now (plan .exit)) (now (words .exit)) ⌝ }
 {
     let checked = checking::check(sheet);
