@@ -22,7 +22,7 @@ use Rattle.tails.specs.Cheapest.{CheapestWords}
 use Rattle.front.specs.ChosenChain.{ChosenChain}
 use Rattle.planner.specs.Planning.{planLength}
 
--- the sheet passes the checks and at least 602 words are lent
+-- the sheet passes the checks, which is where `check` answers 0, and at least 602 words are lent
 pub record Ready (s words : List ℕ) : Type 0 where
   pub passes : Passes s
   pub enough : 602 ≤ length words
