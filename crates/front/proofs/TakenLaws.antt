@@ -30,6 +30,10 @@ pub record Taken (p : PlanningSheet) (option y : ℕ) (behind : ℕ → Entry) (
   pub there : behind end .total ≡ noTotal → ⊥
   pub goes : ends ≡ end ∷ behind end .ends
 
+first-read : (xs : List ℕ) → firstOf xs ≡ getD xs 0 0
+first-read [] = refl
+first-read (x ∷ xs) = refl
+
 module _ (p : PlanningSheet) where
   best-taken :
       (option y : ℕ) (behind : ℕ → Entry) → (bestEnd p option behind y .total ≡ noTotal → ⊥)
@@ -64,10 +68,6 @@ module _ (p : PlanningSheet) where
   renovated-taken : (i : ℕ) → (renovated p i .total ≡ noTotal → ⊥) → Taken p renovate i (tail p) (renovated p i .ends)
   unfolding renovated
   renovated-taken i = best-taken renovate i (tail p)
-
-  first-read : (xs : List ℕ) → firstOf xs ≡ getD xs 0 0
-  first-read [] = refl
-  first-read (x ∷ xs) = refl
 
   -- i is the end of maintaining, j that of renovating from i
   pub planned-front :
