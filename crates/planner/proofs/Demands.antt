@@ -48,7 +48,7 @@ module _ (s plan words : List ℕ) where
   accepted-when = (λ e. let d = done s plan words e in (d .ready, (found (sheetOf s), (d .chosen, d .room))), zero-when s plan words)
 
   ample-accepted : AmpleAccepted s plan words number
-  ample-accepted = ample-when s plan words
+  ample-accepted h room = ample-when s plan words h (omega arith)
 
   -- the chain in the written plan is the chosen one, and the only one; its total is the one printed
   returns-chosen : ReturnsChosen s number total plan′

@@ -32,7 +32,7 @@ begins c p read = c .best-front .ensures p read
 
 -- there is one where the code goes on
 exists : (c : tie.Else1) → c .before .best-front .result .total ≡ noTotal → ⊥
-exists c q = c .if1 .left (omega arith)
+exists c q = omega (arith, q, c .if1 .left)
 
 there : (c : tie.Else1) (p : PlanningSheet) → start (c .before) .args .sheet ≡ parsed p → planned p .total ≡ noTotal → ⊥
 there c p read q = exists c (ap (λ (f : Front). f .total) (begins (c .before) p read) ∙ q)
