@@ -3,7 +3,7 @@
  * an unreadable page begins, once beginning where an unreadable page ends. Its
  * own pages are read-only during the call. A read outside it or a write
  * anywhere near it is then a memory fault, which is reported under the name of
- * the case. planning.c says how the buffers are watched that are written.
+ * the case. lending.c says how the buffers are watched that are written.
  *
  * Every call runs on a stack that was filled with one byte value. The lowest
  * byte that changed tells how much stack the call used.
