@@ -16,16 +16,17 @@ use Rattle.chain.specs.PlanBytes.{bytes, endBytes, header, encode}
 use Rattle.choice.specs.Running.{weigh, over}
 use Rattle.choice.specs.Table.{table, entry}
 use Rattle.tails.specs.Tail.{bestEnd, tail}
+use Rattle.tails.specs.Words.{tails, tailWords}
 use Rattle.front.specs.Planned.{renovated, planned}
-use Rattle.planner.specs.Planning.{planning, planAnswer, planAfter}
+use Rattle.planner.specs.Planning.{planning, planAnswer, planAfter, wordsAfter}
 use Rattle.planner.specs.Cases.{casesOneToTwelve, casesOfPlanning}
 
 -- both lists at once, by the same definitions
 cases-hold : AllHold casesOneToTwelve × AllHold casesOfPlanning
-unfolding u16At u32At i32At expenseAt onceAt optionAt sheetOf factor flowOf overhaulsOf termsOf _unless_else_ firstBelow inflationOk inflationsOk ageingOk ageingsOk ageBefore overhaulOk headerNumber fieldsNumber overhaulAnswer optionAnswer checked total divided plain inService repeated rounded arcOf once inYear investment maintenance electricity ageOf overhaul forEach when overhaulsBelow paid payments cost offered costing costed bytes endBytes header encode weigh over table entry bestEnd tail renovated planned planning planAnswer planAfter
+unfolding u16At u32At i32At expenseAt onceAt optionAt sheetOf factor flowOf overhaulsOf termsOf _unless_else_ firstBelow inflationOk inflationsOk ageingOk ageingsOk ageBefore overhaulOk headerNumber fieldsNumber overhaulAnswer optionAnswer checked total divided plain inService repeated rounded arcOf once inYear investment maintenance electricity ageOf overhaul forEach when overhaulsBelow paid payments cost offered costing costed bytes endBytes header encode weigh over table entry bestEnd tail renovated planned planning planAnswer planAfter wordsAfter tailWords tails
 cases-hold = (
   (refl, (refl, (refl, (refl, (refl, (refl, (refl, (refl, (refl, (refl, (refl, (refl, tt)))))))))))),
-  (refl, (refl, (refl, (refl, (refl, (refl, (refl, (refl, tt)))))))),
+  (refl, (refl, (refl, (refl, (refl, (refl, (refl, (refl, (refl, (refl, (refl, (refl, tt)))))))))))),
 )
 
 pub twelve-cases-hold : AllHold casesOneToTwelve

@@ -2,13 +2,14 @@
 -- bytes of plans are written out, not encoded. Definitions only.
 use Prim.Native.Nat.{ℕ}
 use mathlib.Core.List.{List, [], _∷_, _++_}
-use lib.ListN.{length, replicate}
+use lib.ListN.{length, getD, replicate}
 use Rattle.checking.specs.Answer.{accepted, refused}
 use Rattle.checking.specs.declared.Answer.{Answer}
 use Rattle.costing.specs.Cases.{Case, bytes16, bytes32, casesOneToEight}
 use Rattle.chain.specs.Cases.{sheet11, sheet12, ends}
+use Rattle.choice.specs.Running.{noTotal}
 use Rattle.tails.specs.Cases.{sheet9, sheet10}
-use Rattle.planner.specs.Planning.{planAnswer, planAfter}
+use Rattle.planner.specs.Planning.{planAnswer, planAfter, wordsAfter}
 
 -- what planning answers, and what a plan buffer that was full of 255 then holds
 abbrev pub planCaseWith : (sheet : List ℕ) (room words : ℕ) → Answer → (after : List ℕ) → Case
@@ -23,6 +24,13 @@ planCaseWith sheet room words answer after =
 
 abbrev pub planCase : (sheet : List ℕ) (room : ℕ) → Answer → (after : List ℕ) → Case
 planCase sheet room answer after = planCaseWith sheet room 602 answer after
+
+-- what word 0 and word 301 then hold, if all words were 0
+abbrev pub wordsCase : (sheet : List ℕ) (room words : ℕ) (first second : ℕ) → Case
+wordsCase sheet room words first second =
+    let plan : List ℕ = replicate room 255 in
+    let lent : List ℕ = wordsAfter sheet plan (replicate words 0) in
+    record { Figure = ℕ × ℕ; given = (getD lent 0 0, getD lent 301 0); expected = (first, second) }
 
 -- a plan: the bytes of its total, i, j, and its ends, each below 256
 abbrev pub planOf : (totalBytes : List ℕ) (i j : ℕ) → List ℕ → List ℕ
@@ -79,4 +87,9 @@ casesOfPlanning =
     ∷ planCase sheet9 0 (refused 11 3) []
     -- a word too few
     ∷ planCaseWith sheet12 23 601 (refused 10 3) (replicate 23 255)
+    -- the words are written on 0, 11 and 12, and left on 10
+    ∷ wordsCase sheet12 23 602 240_000 2
+    ∷ wordsCase sheet12 22 602 240_000 2
+    ∷ wordsCase sheet9 23 602 noTotal 0
+    ∷ wordsCase sheet12 23 601 0 0
     ∷ []
