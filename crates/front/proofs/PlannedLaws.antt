@@ -17,7 +17,7 @@ use Rattle.chain.specs.Chain.{Chain, maintain, renovate, Reaches, activities, F
 use Rattle.chain.proofs.FeasibleLaws.{feasible-parts}
 use Rattle.choice.specs.Choice.{Before, Chosen}
 use Rattle.choice.specs.Running.{noTotal, noEntry, Holds, Then, thenWeight}
-use Rattle.choice.proofs.ChoiceLaws.{chosen-only}
+use Rattle.choice.proofs.ChoiceLaws.{chosen-le, chosen-only}
 use Rattle.choice.proofs.HoldsLaws.{holds-none, holds-noEntry, holds-chosen}
 use Rattle.tails.specs.Tail.{costTo, tail}
 use Rattle.tails.specs.Cheapest.{replaced}
@@ -91,7 +91,9 @@ module _ (p : PlanningSheet) where
       }
 
   pub chosen-chain-le : (c : Chain) → ChosenChain p c → (d : Chain) → Feasible p d → roundedTotal p c ≤ roundedTotal p d
-  chosen-chain-le c h d f = ⊎-elim (λ l. omega arith) (λ e. omega (arith, e .0)) (h .least d f)
+  chosen-chain-le c h d f =
+      rw (← rounded-years c, ← rounded-years d)
+      (chosen-le Maintains maintaining (years c) (chosen-of-chain c h) (years d) (feasible-years d .1 f))
 
   pub chosen-chain-only : (c d : Chain) → ChosenChain p c → ChosenChain p d → c ≡ d
   chosen-chain-only c d h k =

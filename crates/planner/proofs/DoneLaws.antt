@@ -59,7 +59,8 @@ module _ (s plan words : List ℕ) where
     done-behind : (k : ℕ) → 19 + 2 * countField (planAfter s plan words) ≤ k → getD (planAfter s plan words) k 0 ≡ getD plan k 0
     done-behind k l =
         ap (λ (l : List ℕ). getD l k 0) (d .written)
-        ∙ written-behind plan (encode units chain) k (omega (arith, encode-length units chain, done-count))
+        ∙ written-behind plan (encode units chain) (omega (arith, d .room, encode-length units chain)) k
+        (omega (arith, encode-length units chain, done-count))
 
     pub done-length : length (planAfter s plan words) ≡ length plan
     done-length = ap length (d .written) ∙ length-sets plan 0 (encode units chain)

@@ -3,13 +3,13 @@
 -- `sets-no-byte`); one end year more and none (`sets-end`, `sets-no-end`); what was written to the front of a buffer is read there, and
 -- the bytes behind it are kept (`written-first`, `written-behind`). Assumes nothing.
 use Prim.Native.Nat.{ℕ, suc, _+_, _-_, _*_, _/_, _%_, _≤_, _<_}
-use mathlib.Core.Path.{_≡_, refl, ap, _∙_}
+use mathlib.Core.Path.{_≡_, ap, _∙_}
 use mathlib.Core.List.{List, [], _∷_, _++_}
-use native.Mathlib.Nat.{add-zero}
+use native.Mathlib.Nat.{add-zero, zero-add}
 use native.Mathlib.Numerals.{add-one}
 use native.Mathlib.Omega.{arith}
 use lib.ListN.{length, getD, set, take, drop}
-use lib.Seq.{sets, sets-eq, slice, slice-cons, slice-empty, take-append-seam, getD-set-other}
+use lib.Seq.{sets, sets-eq, slice, slice-cons, slice-empty, take-append-seam, getD-append-add, getD-drop}
 use Rattle.chain.specs.Chain.{Chain}
 use Rattle.chain.specs.PlanBytes.{bytes, endBytes, header, encode}
 use Rattle.chain.proofs.PlanBytesLaws.{bytes-length}
@@ -54,16 +54,18 @@ module _ (l ends : List ℕ) (count k : ℕ) where
   unfolding endBytes
   sets-no-end e = rw (e, slice-empty count ends)
 
--- what was written to the front of a buffer
+-- what was written to the front of a buffer that is long enough
+module _ (plan bs : List ℕ) (room : length bs ≤ length plan) where
+  sets-front : sets plan 0 bs ≡ bs ++ drop (length bs) plan
+  sets-front =
+      let long : 0 + length bs ≤ length plan = omega arith in
+      rw (← zero-add (length bs)) (sets-eq bs plan 0 long)
 
-pub written-first : (plan bs : List ℕ) → length bs ≤ length plan → take (length bs) (sets plan 0 bs) ≡ bs
-written-first plan bs h =
-    let fits : 0 + length bs ≤ length plan = omega arith in
-    rw (sets-eq bs plan 0) (take-append-seam bs (drop (0 + length bs) plan))
+  pub written-first : take (length bs) (sets plan 0 bs) ≡ bs
+  written-first = rw sets-front (take-append-seam bs (drop (length bs) plan))
 
-sets-behind : (l : List ℕ) (i : ℕ) (vs : List ℕ) (k : ℕ) → i + length vs ≤ k → getD (sets l i vs) k 0 ≡ getD l k 0
-sets-behind l i [] k h = refl
-sets-behind l i (v ∷ vs) k h = sets-behind (set l i v) (suc i) vs k (omega arith) ∙ getD-set-other l i k v 0 (λ q. omega arith)
-
-pub written-behind : (plan bs : List ℕ) (k : ℕ) → length bs ≤ k → getD (sets plan 0 bs) k 0 ≡ getD plan k 0
-written-behind plan bs k h = sets-behind plan 0 bs k (omega arith)
+  pub written-behind : (k : ℕ) → length bs ≤ k → getD (sets plan 0 bs) k 0 ≡ getD plan k 0
+  written-behind k behind =
+      let n = length bs in
+      let e : k ≡ n + (k - n) = omega arith in
+      rw (sets-front, e) (getD-append-add bs (drop n plan) (k - n) 0 ∙ getD-drop n plan (k - n) 0)
