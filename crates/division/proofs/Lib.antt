@@ -1,2 +1,5 @@
--- The laws of division.
+-- The laws of division, in reading order.
+--     UpperLaws: the upper half of a product
+--     GuessLaws: a quotient by a guess
+pub mod UpperLaws
 pub mod GuessLaws

@@ -2,7 +2,7 @@
 // Nothing here is a public call: `Divisor` serves the crates above, which meet what it requires.
 
 ghost use mathlib.Core.Path.{_≡_};
-ghost use Prim.Native.Nat.{_/_, _^_, _<_, _≤_};
+ghost use Prim.Native.Nat.{_*_, _/_, _^_, _<_, _≤_};
 ghost use Rattle.division.specs.Division.{Ready};
 
 // Powers of two: 32 + 51 and 64 + 19 are both 83.
@@ -12,11 +12,23 @@ const TWO_32: u64 = 4_294_967_296;
 
 const TWO_51: u64 = 2_251_799_813_685_248;
 
-// A divisor, and 2^83 over it, as two halves of 32 bits.
+// A divisor, and 2^83 over it.
 pub struct Divisor {
     pub by: u64,
-    pub high: u64,
-    pub low: u64,
+    pub inverse: u64,
+}
+
+// The upper half of the product of two numbers, by their halves. The compiler makes one multiplication of this form.
+fn upper(x: u64, y: u64) -> u64
+    ensures { λ r. ⌜ r ≡ x * y / 2 ^ 64 ⌝ }
+{
+    let a = x / TWO_32;
+    let b = x % TWO_32;
+    let c = y / TWO_32;
+    let d = y % TWO_32;
+    let middle = a * d + b * d / TWO_32;
+    let lower = middle % TWO_32 + b * c;
+    a * c + middle / TWO_32 + lower / TWO_32
 }
 
 impl Divisor {
@@ -31,8 +43,7 @@ impl Divisor {
         let low = rest * TWO_32 / by;
         Divisor {
             by: by,
-            high: high,
-            low: low,
+            inverse: high * TWO_32 + low,
         }
     }
 
@@ -42,12 +53,7 @@ impl Divisor {
         ensures { λ r. ⌜ r ≡ n / self .by ⌝ }
     {
         let by = self.by;
-        let high = self.high;
-        let low = self.low;
-        let above = n / TWO_32;
-        let below = n % TWO_32;
-        let product = above * high + above * low / TWO_32 + below * high / TWO_32;
-        let guess = product / TWO_19;
+        let guess = upper(n, self.inverse) / TWO_19;
         let rest = n - guess * by;
         if rest < by {
             return guess;

@@ -2,22 +2,13 @@
 use Prim.Native.Nat.{_≤_}
 use mathlib.Core.Path.{refl}
 use native.Mathlib.Omega.{arith}
-use Rattle.division.proofs.GuessLaws.{high-le, high-lt, rest-lt, low-lt, inverse-under}
+use Rattle.division.proofs.GuessLaws.{high-le, rest-lt, inverse-fits, inverse-under}
 use borrow.Author.Needs.{needs}
 use Rattle.division.proofs.Divisor.of.Statement.{statement}
 use Rattle.division.proofs.Divisor.of.Tie as tie
 
 returns : tie.Need-returns
-returns c =
-    let large : 1_000_000 ≤ c .args .by = omega arith in (
-      refl,
-      record {
-        positive = omega arith;
-        under = inverse-under (c .args .by) large;
-        high = high-lt (c .args .by) large;
-        low = low-lt (c .args .by) large;
-      },
-    )
+returns c = (refl, record { positive = omega arith; under = inverse-under (c .args .by) (omega arith) })
 
 div-high : tie.Need-div-high
 div-high c = search needs
@@ -34,5 +25,11 @@ mul-low c = omega (arith, rest-lt (c .args .by) (omega arith))
 div-low : tie.Need-div-low
 div-low c = search needs
 
+mul-t5 : tie.Need-mul-t5
+mul-t5 c = omega (arith, inverse-fits (c .args .by) (omega arith))
+
+add-t6 : tie.Need-add-t6
+add-t6 c = record { fits = inverse-fits (c .args .by) (omega arith) }
+
 pub of-spec : {M : Type 1} → statement M
-of-spec = tie.close (tie.spec div-high mul-rest sub-rest mul-low div-low returns)
+of-spec = tie.close (tie.spec div-high mul-rest sub-rest mul-low div-low mul-t5 add-t6 returns)
