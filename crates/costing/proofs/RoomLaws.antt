@@ -8,11 +8,11 @@ use Rattle.costing.specs.Fit.{PlainFits, ServiceFits}
 use Rattle.costing.proofs.RoundingLaws.{divided-near, divided-le}
 
 -- the dividends of the two divisions
-pub plain-room : (grow discount a : ℕ) → PlainFits grow discount a → a * grow ≤ 18_000_000_000_000_000_000
+pub plain-room : (grow discount a : ℕ) → PlainFits grow discount a → a * grow ≤ 15_000_000_000_000_000_000
 plain-room grow discount a h =
     let k : a * grow ≤ 10_000_000_000_300 * 1_200_000 = mul-le-mul (h .room) (le-trans (h .grown) (h .high)) in omega arith
 
-pub age-room : (grow age discount a : ℕ) → ServiceFits grow age discount a → a * age ≤ 18_000_000_000_000_000_000
+pub age-room : (grow age discount a : ℕ) → ServiceFits grow age discount a → a * age ≤ 15_000_000_000_000_000_000
 age-room grow age discount a h =
     let k : a * age ≤ 10_000_000_000_300 * 1_300_000 = mul-le-mul (h .plainly .room) (h .aged) in omega arith
 
@@ -42,7 +42,7 @@ module _ (grow age discount : ℕ) (positive : 0 < discount) (grown : grow ≤ d
   services-le (suc k) a = omega (arith, inService-le (repeated k (inService grow age discount) a), services-le k a)
 
 pub aged-fits :
-    (grow age discount a : ℕ) → ServiceFits grow age discount a → divided (a * age) 1_000_000 * grow ≤ 18_000_000_000_000_000_000
+    (grow age discount a : ℕ) → ServiceFits grow age discount a → divided (a * age) 1_000_000 * grow ≤ 15_000_000_000_000_000_000
 aged-fits grow age discount a h =
     let p = h .plainly in
     let k : (a + 1) * discount ≤ 10_000_000_000_301 * 1_200_000 = mul-le-mul {n₂ = 10_000_000_000_301} (omega arith) (p .high) in

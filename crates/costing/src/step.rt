@@ -10,7 +10,7 @@ use division::Divisor;
 
 // n / d to the nearest whole unit, a half going up.
 fn nearest(n: u64, d: u64) -> u64
-    requires { ⌜ (0 < d) × (d ≤ 1_300_000) × (n ≤ 18_000_000_000_000_000_000) ⌝ }
+    requires { ⌜ (0 < d) × (d ≤ 1_300_000) × (n ≤ 15_000_000_000_000_000_000) ⌝ }
     ensures { λ r. ⌜ r ≡ divided n d ⌝ }
 {
     (n + d / 2) / d
@@ -18,7 +18,7 @@ fn nearest(n: u64, d: u64) -> u64
 
 // The same, by a divisor that is at hand.
 fn nearest_by(n: u64, d: Divisor) -> u64
-    requires { ⌜ Ready d × (d .by ≤ 1_300_000) × (n ≤ 18_000_000_000_000_000_000) ⌝ }
+    requires { ⌜ Ready d × (n ≤ 15_000_000_000_000_000_000) ⌝ }
     ensures { λ r. ⌜ r ≡ divided n (d .by) ⌝ }
 {
     d.quotient(n + d.by / 2)

@@ -1,5 +1,5 @@
 -- The laws of division, in reading order.
 --     UpperLaws: the upper half of a product
---     GuessLaws: a quotient by a guess
+--     ReciprocalLaws: a quotient by a reciprocal
 pub mod UpperLaws
-pub mod GuessLaws
+pub mod ReciprocalLaws

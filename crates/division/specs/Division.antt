@@ -1,8 +1,22 @@
 -- What a divisor asks of its reciprocal. Definitions only.
-use Prim.Native.Nat.{_/_, _^_, _≤_, _<_}
+use Prim.Native.Nat.{_+_, _*_, _^_, _≤_, _<_}
+use mathlib.Core.Path.{_≡_}
+use mathlib.Core.Logic.{_⊎_}
 use Rattle.division.specs.declared.Divisor.{Divisor}
 
--- the reciprocal is not above 2^83 / by, so that no guess lies above the quotient
+-- the reciprocal times the divisor is 2^83 or more, by half a divisor at most
+pub record Above (d : Divisor) : Type 0 where
+  pub exact : d .more ≡ 0
+  pub low : 2 ^ 83 ≤ d .inverse * d .by
+  pub high : 2 * (d .inverse * d .by) ≤ 2 * 2 ^ 83 + d .by
+
+-- or less, by half a divisor at most
+pub record Below (d : Divisor) : Type 0 where
+  pub more : d .more ≡ 1
+  pub high : d .inverse * d .by < 2 ^ 83
+  pub low : 2 * 2 ^ 83 ≤ 2 * (d .inverse * d .by) + d .by
+
 pub record Ready (d : Divisor) : Type 0 where
   pub positive : 0 < d .by
-  pub under : d .inverse ≤ 2 ^ 83 / d .by
+  pub small : d .by ≤ 1_200_000
+  pub near : Above d ⊎ Below d

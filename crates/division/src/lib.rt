@@ -1,8 +1,8 @@
-// Division of 64-bit numbers by one divisor many times: a quotient is guessed by multiplications, and what the guess leaves is divided.
+// Division of 64-bit numbers by one divisor many times: one multiplication by a reciprocal that is made once.
 // Nothing here is a public call: `Divisor` serves the crates above, which meet what it requires.
 
 ghost use mathlib.Core.Path.{_≡_};
-ghost use Prim.Native.Nat.{_*_, _/_, _^_, _<_, _≤_};
+ghost use Prim.Native.Nat.{_*_, _/_, _^_, _≤_};
 ghost use Rattle.division.specs.Division.{Ready};
 
 // Powers of two: 32 + 51 and 64 + 19 are both 83.
@@ -12,10 +12,11 @@ const TWO_32: u64 = 4_294_967_296;
 
 const TWO_51: u64 = 2_251_799_813_685_248;
 
-// A divisor, and 2^83 over it.
+// A divisor, and 2^83 over it to the nearest whole number. `more` is 1 where that lies below 2^83 over the divisor, else 0.
 pub struct Divisor {
     pub by: u64,
     pub inverse: u64,
+    pub more: u64,
 }
 
 // The upper half of the product of two numbers, by their halves. The compiler makes one multiplication of this form.
@@ -32,32 +33,37 @@ fn upper(x: u64, y: u64) -> u64
 }
 
 impl Divisor {
-    // The divisor of a number of 32 bits from 10^6 on: 2^83 over it then has at most 64 bits.
+    // The divisor of a discount factor. 2^83 - 1 is divided in two steps; `left` is what it leaves.
     pub fn of(by: u64) -> Divisor
-        requires { ⌜ (1_000_000 ≤ by) × (by < 2 ^ 32) ⌝ }
+        requires { ⌜ (1_000_000 ≤ by) × (by ≤ 1_200_000) ⌝ }
         ensures number { λ r. ⌜ r .by ≡ by ⌝ }
         ensures ready { λ r. ⌜ Ready r ⌝ }
     {
-        let high = TWO_51 / by;
-        let rest = TWO_51 - high * by;
-        let low = rest * TWO_32 / by;
+        let high = (TWO_51 - 1) / by;
+        let rest = TWO_51 - 1 - high * by;
+        let lower = rest * TWO_32 + (TWO_32 - 1);
+        let low = lower / by;
+        let left = lower - low * by;
+        let inverse = high * TWO_32 + low;
+        if 2 * (left + 1) <= by {
+            return Divisor {
+                by: by,
+                inverse: inverse,
+                more: 1,
+            };
+        }
         Divisor {
             by: by,
-            inverse: high * TWO_32 + low,
+            inverse: inverse + 1,
+            more: 0,
         }
     }
 
-    // n over the divisor. The guess lies at or below the quotient, and is nearly always the quotient: what is left is then below the divisor.
+    // n over the divisor.
     pub fn quotient(self, n: u64) -> u64
-        requires { ⌜ Ready self ⌝ }
+        requires { ⌜ Ready self × (n ≤ 16_000_000_000_000_000_000) ⌝ }
         ensures { λ r. ⌜ r ≡ n / self .by ⌝ }
     {
-        let by = self.by;
-        let guess = upper(n, self.inverse) / TWO_19;
-        let rest = n - guess * by;
-        if rest < by {
-            return guess;
-        }
-        guess + rest / by
+        upper(n + self.more, self.inverse) / TWO_19
     }
 }

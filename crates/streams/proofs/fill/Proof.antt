@@ -1,5 +1,11 @@
 -- All streams of an option, one after the other: each is left by those behind it. Assumes nothing.
+use Prim.Native.Nat.{_*_}
 use native.Mathlib.Omega.{arith}
+use Rattle.sheet.specs.declared.Flow.{Flow}
+use Rattle.division.specs.Division.{Ready}
+use Rattle.checking.specs.Fit.{FlowFits}
+use Rattle.costing.specs.Fit.{PlainFits}
+use Rattle.costing.proofs.RoomLaws.{amount-fits}
 use Rattle.streams.specs.Streams.{part}
 use Rattle.streams.proofs.FillLaws.{left-through, stream-stays}
 use borrow.Author.Needs.{needs}
@@ -31,17 +37,29 @@ returns c =
       overhauls = all .ensures .streams;
     }
 
+-- what filling the stream of a flow asks
+flow-asks :
+    (s : tie.Start) (w : Flow) → FlowFits (s .args .discount .by) w
+    → PlainFits (w .grow) (s .args .discount .by) (w .amount * 10_000) × Ready (s .args .discount)
+flow-asks s w h = let d = s .pre .0 in (amount-fits _ _ _ (d .1) (d .2) (h .grow .high) (h .amount), d .0)
+
 stream-requires : tie.Need-stream-requires
-stream-requires c κs = search needs
+stream-requires c κs =
+    let s = c .before .before .before .before .before in
+    (flow-asks s (s .args .terms .investment) (s .pre .1 .0 .investment), search needs)
 
 stream-requires-2 : tie.Need-stream-requires-2
-stream-requires-2 c κs = search needs
+stream-requires-2 c κs =
+    let s = c .before .before .before .before .before .before .before .before .before in
+    (flow-asks s (s .args .terms .maintenance) (s .pre .1 .0 .maintenance), search needs)
 
 mul-stream : tie.Need-mul-stream
 mul-stream c = search needs
 
 stream-requires-3 : tie.Need-stream-requires-3
-stream-requires-3 c κs = search needs
+stream-requires-3 c κs =
+    let s = c .before .before .before .before .before .before .before .before .before .before .before .before .before in
+    (flow-asks s (s .args .terms .electricity) (s .pre .1 .0 .electricity), search needs)
 
 overhauls-requires : tie.Need-overhauls-requires
 overhauls-requires c κs =

@@ -25,7 +25,7 @@ mul-nearest-by c = rw (c .nearest .ensures) (omega (arith, aged-fits _ _ _ _ (c 
 nearest-by-requires : tie.Need-nearest-by-requires
 nearest-by-requires c κs =
     let s = c .before .before .pre in
-    rw (c .nearest .ensures) (s .1, omega arith, omega (arith, aged-fits _ _ _ _ (s .0)))
+    rw (c .nearest .ensures) (s .1, omega (arith, aged-fits _ _ _ _ (s .0)))
 
 pub in-service-spec : {M : Type 1} → statement M
 in-service-spec =

@@ -11,7 +11,7 @@ mul-nearest-by c = omega (arith, plain-room _ _ _ (c .before .pre .0))
 nearest-by-requires : tie.Need-nearest-by-requires
 nearest-by-requires c κs =
     let s = c .before .pre in
-    (s .1, omega arith, omega (arith, plain-room _ _ _ (s .0)))
+    (s .1, omega (arith, plain-room _ _ _ (s .0)))
 
 returns : tie.Need-returns
 unfolding plain

@@ -10,7 +10,7 @@ add-quotient : tie.Need-add-quotient
 add-quotient c = search needs
 
 quotient-requires : tie.Need-quotient-requires
-quotient-requires c κs = c .before .pre .0
+quotient-requires c κs = (c .before .pre .0, omega (arith, c .before .pre .0 .small))
 
 returns : tie.Need-returns
 returns c =

@@ -1,37 +1,20 @@
--- The quotient: what the guess from below leaves is divided. Assumes nothing.
-use Prim.Native.Nat.{_^_, _<_}
+-- The quotient: one product with the reciprocal. Assumes nothing.
 use native.Mathlib.Omega.{arith}
-use Rattle.division.proofs.GuessLaws.{guess-le, quotient-off, nothing-left, quotient-fits}
+use Rattle.division.proofs.ReciprocalLaws.{more-le, reciprocal-quotient}
 use borrow.Author.Needs.{needs}
 use Rattle.division.proofs.Divisor.quotient.Statement.{statement}
 use Rattle.division.proofs.Divisor.quotient.Tie as tie
 
-returns-2 : tie.Need-returns-2
-returns-2 c = let s = c .before .before in quotient-off (s .args .self) (s .pre) (s .args .n) _ (c .before .upper .ensures)
-
 returns : tie.Need-returns
-returns c = let s = c .before .before in nothing-left (s .args .self) (s .pre) (s .args .n) _ (c .before .upper .ensures) (omega (arith, c .if1 .taken))
+returns c =
+    let s = c .before .before in
+    reciprocal-quotient (s .args .self) (s .pre .0) (s .args .n) (c .upper .result) (omega (arith, s .pre .1)) (c .upper .ensures)
+
+add-upper : tie.Need-add-upper
+add-upper c = omega (arith, more-le (c .before .args .self) (c .before .pre .0))
 
 upper-requires : tie.Need-upper-requires
 upper-requires c κs = search needs
 
-mul-rest : tie.Need-mul-rest
-mul-rest c = let s = c .before in omega (arith, guess-le (s .args .self) (s .pre) (s .args .n) _ (c .upper .ensures))
-
-sub-rest : tie.Need-sub-rest
-sub-rest c = let s = c .before in guess-le (s .args .self) (s .pre) (s .args .n) _ (c .upper .ensures)
-
-div-result : tie.Need-div-result
-div-result c = search needs
-
-number : (s : tie.Start) → s .args .n < 2 ^ 64
-number s = omega arith
-
-add-result : tie.Need-add-result
-add-result c =
-    let s = c .before .before in
-    record { fits = quotient-fits (s .args .self) (s .pre) (s .args .n) _ (c .before .upper .ensures) (number s) }
-
 pub quotient-spec : {M : Type 1} → statement M
-quotient-spec =
-    tie.close (tie.spec upper-requires mul-rest sub-rest returns div-result add-result returns-2)
+quotient-spec = tie.close (tie.spec add-upper upper-requires returns)
