@@ -62,7 +62,7 @@ pub fn open(streams: &[u64], kept: Kept, last: u64) -> Walk
 // What the overhauls of age n cost, if `next` is the first of that age or more; `ages` are the option's.
 pub fn due(streams: &[u64], ages: &[u64; 8], kept: Kept, last: u64, next: usize, n: u64) -> Fallen
     requires { ⌜ KeptFits kept × (now ages ≡ kept .terms .overhauls .ages) × Falls kept n next ⌝ }
-    requires { ⌜ Streams (kept .discount) (kept .terms) last (now streams) × (kept .from + n < last) × (last ≤ 300) ⌝ }
+    requires { ⌜ Streams (kept .discount) (kept .terms) last (now streams) × (kept .from + n ≤ last) × (last ≤ 300) ⌝ }
     ensures units { λ r. ⌜ r .units .0 ≡ worth kept (overhaulsAt kept n) ⌝ }
     ensures next { λ r. ⌜ Falls kept (n + 1) (r .next) ⌝ }
 {

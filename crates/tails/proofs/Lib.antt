@@ -4,10 +4,12 @@
 --     WordLaws: the words written from T down, and what they promise after planning
 --     BestLaws: the running choice on numbers, against that of entries
 --     EndLaws: the ends of an option that is kept, on its terms
+--     CostLaws: what the arcs of an option cost, by their lengths
 --     SheetEndLaws: the same on a sheet; the choice from a year is the table's
 pub mod CaseLaws
 pub mod TailLaws
 pub mod WordLaws
 pub mod BestLaws
 pub mod EndLaws
+pub mod CostLaws
 pub mod SheetEndLaws

@@ -1,5 +1,5 @@
 -- The choice of an end on the terms of an option is the one that the rules give: for any option and entries behind the ends (`ends-over`),
--- and for replacements, where it is the table's (`tail-best`). Assumes nothing.
+-- and for replacements, where it is the table's (`tail-best`, `year-best`). Assumes nothing.
 use Prim.Native.Nat.{ℕ, _+_, _-_, _≤_, _<_}
 use mathlib.Core.Path.{_≡_, refl, ap, sym, _∙_}
 use mathlib.Core.Bool.{true, false, _&&_, or-false}
@@ -26,7 +26,8 @@ use Rattle.chain.specs.Chain.{replace}
 use Rattle.choice.specs.Running.{Entry, noEntry, over}
 use Rattle.choice.proofs.RunningLaws.{over-same, over-start}
 use Rattle.tails.specs.Tail.{costTo, bestEnd, tail}
-use Rattle.tails.specs.Best.{shown, bestOver, mayEnd, keptCost, wordOf, WordsFit}
+use Rattle.tails.specs.Words.{withYear}
+use Rattle.tails.specs.Best.{shown, bestOver, mayEnd, keptCost, wordOf, WordsFit, withBest}
 use Rattle.tails.specs.declared.Best.{Best}
 use Rattle.tails.proofs.TailLaws.{tail-step, tail-le}
 use Rattle.tails.proofs.BestLaws.{best-shown}
@@ -112,6 +113,16 @@ module _ (p : PlanningSheet) (s : Sheet) (other : Terms) (read : s ≡ parsed p)
       ∙ tail-over y (omega (arith, T)) (λ e l m. held e l (omega (arith, T)))
 
 -- words that have the totals of the table leave room
+-- so the words that the choice from year y is written to are those of the table
+pub year-best :
+    (p : PlanningSheet) (s : Sheet) (other : Terms) (read : s ≡ parsed p) (words : List ℕ) (y : ℕ) {new : List ℕ} → y < s .horizon
+    → ((e : ℕ) → y < e → e ≤ s .horizon → wordOf words e ≡ tail p e .total)
+    → let a = keptOf s other replace y in
+    new ≡ withBest y (bestOver (mayEnd a) (keptCost a) (wordOf words) (y + 1) (shown noEntry) (s .horizon - y)) words
+    → new ≡ withYear p y words
+year-best p s other read words y early held written =
+    written ∙ ap (λ (best : Best). withBest y best words) (tail-best p s other read (wordOf words) y y refl early held refl)
+
 pub words-fit :
     (p : PlanningSheet) → Fit (parsed p) → (T y : ℕ) (words : List ℕ) → T ≡ p .horizon
     → ((e : ℕ) → y < e → e ≤ T → wordOf words e ≡ tail p e .total) → WordsFit T y words

@@ -5,10 +5,10 @@ use Prim.Native.Nat.{ℕ, zero, suc, _+_, _-_, _≤_, _<_}
 use mathlib.Core.Path.{_≡_, refl, sym, ap, _∙_}
 use mathlib.Core.List.{List, [], _∷_, map}
 use mathlib.Core.Logic.{_⊎_, ⊎-elim}
-use native.Mathlib.Nat.{add-zero, add-suc, sub-zero, sub-self}
+use native.Mathlib.Nat.{add-zero, add-suc, sub-zero, sub-self, eq-or-lt-of-le}
 use native.Mathlib.Omega.{arith}
 use lib.ListN.{length, getD, set, drop, length-set}
-use lib.Seq.{sets, set-comm, getD-set-same, getD-set-other, length-sets, getD-drop, drop-drop}
+use lib.Seq.{sets, set-comm, set-getD, getD-set-same, getD-set-other, length-sets, getD-drop, drop-drop}
 use Rattle.sheet.specs.Sheet.{PlanningSheet, sheetOf}
 use Rattle.sheet.specs.Parsed.{parsed}
 use Rattle.sheet.proofs.ParsedLaws.{horizon-read}
@@ -20,7 +20,7 @@ use Rattle.choice.specs.Running.{Entry, noEntry}
 use Rattle.choice.specs.Table.{table, entry}
 use Rattle.choice.proofs.TableLaws.{table-last, table-length, table-cons}
 use Rattle.tails.specs.Tail.{bestEnd, tail}
-use Rattle.tails.specs.Words.{totalOf, firstEnd, tails, tailWords}
+use Rattle.tails.specs.Words.{totalOf, firstEnd, tails, withYear, WordsHeld, tailWords}
 use Rattle.tails.specs.Cheapest.{CheapestWords}
 use Rattle.tails.proofs.TailLaws.{tail-cheapest}
 
@@ -116,6 +116,16 @@ module _ (p : PlanningSheet) where
     unfolding wordsFrom tailWords tails
     words-all = rw (sub-self (p .horizon))
 
+    -- the words of one year more
+    pub held-next :
+        (y : ℕ) → y ≤ 300 → 602 ≤ length words → p .horizon ≤ 300 → WordsHeld p (y + 1) words → WordsHeld p y (withYear p y words)
+    held-next y near room far later e l u =
+        getD-set-other (set words y (tail p y .total)) (301 + y) e (firstEnd (tail p y)) 0 (λ q. omega arith)
+        ∙ ⊎-elim
+        (λ (q : y ≡ e). rw (← q) (getD-set-same words y (tail p y .total) 0 (omega arith)))
+        (λ (m : y < e). getD-set-other words y e (tail p y .total) 0 (λ q. omega arith) ∙ later e (omega arith) u)
+        (eq-or-lt-of-le l)
+
     pub words-length : (n : ℕ) → length (wordsFrom p n words) ≡ length words
     unfolding wordsFrom
     words-length n = rw (length-sets, length-sets)
@@ -139,6 +149,34 @@ module _ (p : PlanningSheet) where
               ∙ sets-same totalOf ts words y e (e - y) (omega arith) (omega arith) (omega arith) ∙ ap totalOf read,
           sets-same firstEnd ts totals (301 + y) (301 + e) (e - y) (omega arith) (omega arith) (omega arith) ∙ ap firstEnd read,
         )
+
+    -- so to write them again changes nothing
+    pub words-again :
+        p .horizon ≤ 300 → 602 ≤ length words → (y : ℕ) → y ≤ p .horizon → (l : List ℕ) → l ≡ wordsFrom p (p .horizon - y) words
+        → withYear p y l ≡ wordsFrom p (p .horizon - y) words
+    words-again far room y early l written =
+        let read = words-read far room y y (omega arith) early in
+        let w = wordsFrom p (p .horizon - y) words in
+        rw written
+        (ap (λ (l : List ℕ). set l (301 + y) (firstEnd (tail p y))) (ap (set w y) (sym (read .0)) ∙ set-getD w y 0)
+        ∙ ap (set w (301 + y)) (sym (read .1)) ∙ set-getD w (301 + y) 0)
+
+    -- the words of the two years before y, of year 0 alone before year 1
+    pub words-two :
+        p .horizon ≤ 300 → 602 ≤ length words → (y : ℕ) → 0 < y → y ≤ p .horizon → (l : List ℕ) → l ≡ wordsFrom p (p .horizon - y) words
+        → withYear p (y - 1 - 1) (withYear p (y - 1) l) ≡ wordsFrom p (p .horizon - (y - 1 - 1)) words
+    words-two far room y some early l written =
+        let same : p .horizon - y ≡ p .horizon - (y - 1 + 1) = omega arith in
+        let first =
+        words-next (y - 1) (omega arith) l (written ∙ ap (λ (n : ℕ). wordsFrom p n words) same) refl refl refl refl in
+        ⊎-elim
+        (λ (q : 1 ≡ y).
+        let once : y - 1 - 1 ≡ y - 1 = omega arith in
+        rw once (words-again far room (y - 1) (omega arith) (withYear p (y - 1) l) first))
+        (λ (m : 1 < y).
+        let next : p .horizon - (y - 1) ≡ p .horizon - (y - 1 - 1 + 1) = omega arith in
+        words-next (y - 1 - 1) (omega arith) (withYear p (y - 1) l) (first ∙ ap (λ (n : ℕ). wordsFrom p n words) next) refl refl refl refl)
+        (eq-or-lt-of-le some)
 
     -- after planning, those of every year
     pub tail-words-read :

@@ -5,7 +5,7 @@ use mathlib.Core.Path.{_≡_}
 use mathlib.Core.Bool.{Bool, cond, _&&_}
 use mathlib.Core.List.{List}
 use lib.Dec.{leb, eqb}
-use lib.ListN.{getD}
+use lib.ListN.{getD, set}
 use Rattle.sheet.specs.declared.Sheet.{Sheet}
 use Rattle.sheet.specs.declared.Terms.{Terms}
 use Rattle.costing.specs.Arc.{paid, worth}
@@ -38,6 +38,18 @@ mayEnd a e = leb (a .terms .shortest) (e - a .from) && leb (e - a .from) (a .ter
 abbrev pub keptCost : Kept → ℕ → ℕ
 keptCost a e = worth a (paid a (e - a .from))
 
+-- the same option, kept from another year
+abbrev pub keptFrom : Kept → ℕ → Kept
+keptFrom a y = record { terms = a .terms; discount = a .discount; from = y }
+
+-- what the arcs of an option that is kept cost, by their lengths: of one year, of two years, .., of that many
+abbrev pub Costs : Kept → (years : ℕ) → List ℕ → Type 0
+Costs a years costs = (n : ℕ) → n < years → getD costs n 0 ≡ worth a (paid a (n + 1))
+
+-- the same of the arcs that end by T and are not longer than the longest life
+abbrev pub CostsTo : Kept → (T : ℕ) → List ℕ → Type 0
+CostsTo a T costs = (n : ℕ) → n < a .terms .longest → a .from + n < T → getD costs n 0 ≡ worth a (paid a (n + 1))
+
 -- the word of a year
 abbrev pub wordOf : List ℕ → ℕ → ℕ
 wordOf words y = getD words y 0
@@ -45,6 +57,10 @@ wordOf words y = getD words y 0
 -- the words of the years after y leave room: where there is a total, it is at most 11 payments a year
 abbrev pub WordsFit : (T y : ℕ) → List ℕ → Type 0
 WordsFit T y words = (e : ℕ) → y < e → e ≤ T → (wordOf words e ≡ noTotal → ⊥) → wordOf words e ≤ (T - e) * yearly
+
+-- the two words of a year, when a choice is written to them
+abbrev pub withBest : (y : ℕ) → Best → List ℕ → List ℕ
+withBest y best words = set (set words y (best .total)) (301 + y) (best .end)
 
 -- what is lent with a sheet for one of its options: that option's streams, and the ages of its overhauls
 abbrev pub Lent : Sheet → (option : ℕ) (streams ages : List ℕ) → Type 0

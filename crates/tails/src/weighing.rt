@@ -7,7 +7,7 @@ ghost use lib.ListN.{length};
 ghost use Rattle.costing.specs.Fit.{KeptFits, Divides};
 ghost use Rattle.choice.specs.Running.{noTotal};
 ghost use Rattle.streams.specs.Streams.{Streams};
-ghost use Rattle.tails.specs.Best.{weighed, bestOver, mayEnd, keptCost, wordOf, WordsFit};
+ghost use Rattle.tails.specs.Best.{weighed, bestOver, mayEnd, keptCost, wordOf, WordsFit, CostsTo};
 use crate::Best;
 use costing::Kept;
 use costing::Units;
@@ -74,6 +74,26 @@ pub fn best_end(
         n += 1;
         let end = from + n;
         chosen = weigh(shortest <= n, chosen, walk.cost, end, words[end as usize]);
+    }
+    chosen
+}
+
+// The same, by what the arcs cost.
+pub fn best_of(words: &[u64], costs: &[u64], kept: Kept, horizon: u64, best: Best) -> Best
+    requires { ⌜ KeptFits kept × CostsTo kept horizon (now costs) × (120 ≤ length (now costs)) ⌝ }
+    requires { ⌜ (kept .from ≤ horizon) × (horizon ≤ 300) ⌝ }
+    requires { ⌜ (horizon < length (now words)) × WordsFit horizon (kept .from) (now words) ⌝ }
+    ensures { λ r. ⌜ r ≡ bestOver (mayEnd kept) (keptCost kept) (wordOf (now (words .entry))) (kept .from + 1) best (horizon - kept .from) ⌝ }
+{
+    let terms = kept.terms;
+    let years = least(terms.longest, horizon - kept.from);
+    let mut chosen = best;
+    let mut n: u64 = 0;
+    while n < years {
+        let cost = Units(costs[n as usize]);
+        n += 1;
+        let end = kept.from + n;
+        chosen = weigh(terms.shortest <= n, chosen, cost, end, words[end as usize]);
     }
     chosen
 }

@@ -1,21 +1,95 @@
 // The words of every year, from the horizon down.
 
 ghost use mathlib.Core.Path.{_≡_};
-ghost use Prim.Native.Nat.{_≤_};
+ghost use Prim.Native.Nat.{_+_, _-_, _<_, _≤_};
 ghost use lib.ListN.{length};
 ghost use Rattle.sheet.specs.Sheet.{PlanningSheet};
 ghost use Rattle.sheet.specs.Parsed.{parsed, IsParsed};
 ghost use Rattle.checking.specs.Fit.{Fit};
-ghost use Rattle.costing.specs.Fit.{Divides};
+ghost use Rattle.costing.specs.Fit.{KeptFits, Divides};
 ghost use Rattle.chain.specs.Chain.{replace};
-ghost use Rattle.tails.specs.Best.{Lent};
-ghost use Rattle.tails.specs.Words.{tailWords};
+ghost use Rattle.choice.specs.Running.{noEntry};
+ghost use Rattle.tails.specs.Words.{withYear, WordsHeld, tailWords};
+ghost use Rattle.tails.specs.Best.{shown, bestOver, mayEnd, keptCost, CostsTo, wordOf, WordsFit, withBest, Lent};
 use crate::Best;
 use crate::REPLACE;
+use crate::arcs;
 use crate::weighing;
 use costing::Kept;
 use division::Divisor;
 use sheet::Sheet;
+
+// The year before, and 0 before year 0.
+fn before(year: u64) -> u64
+    ensures { λ r. ⌜ r ≡ year - 1 ⌝ }
+{
+    if year == 0 { 0 } else { year - 1 }
+}
+
+// Writes the two words of a year by what the replacements from it cost.
+fn word(words: &mut [u64], costs: &[u64], kept: Kept, horizon: u64)
+    requires { ⌜ KeptFits kept × CostsTo kept horizon (now costs) × (120 ≤ length (now costs)) ⌝ }
+    requires { ⌜ (kept .from ≤ horizon) × (horizon ≤ 300) ⌝ }
+    requires { ⌜ (602 ≤ length (now words)) × WordsFit horizon (kept .from) (now words) ⌝ }
+    ensures { λ _. ⌜ now (words .exit) ≡ withBest (kept .from) (bestOver (mayEnd kept) (keptCost kept) (wordOf (now (words .entry))) (kept .from + 1) (shown noEntry) (horizon - kept .from)) (now (words .entry)) ⌝ }
+{
+    let none = Best {
+        total: weighing::NONE,
+        end: 0,
+    };
+    let chosen = weighing::best_of(words, costs, kept, horizon, none);
+    let year = kept.from as usize;
+    words[year] = chosen.total;
+    words[301 + year] = chosen.end;
+}
+
+// Writes the words of the two years before one, of which the words and those behind are written: of year 0 alone before year 1.
+fn two_years(
+    words: &mut [u64],
+    streams: &[u64],
+    ages: &[u64; 8],
+    sheet: Sheet,
+    discount: Divisor,
+    reached: u64,
+) -> u64
+    requires { ⌜ Fit sheet × IsParsed sheet × Divides discount (sheet .discount) ⌝ }
+    requires { ⌜ Lent sheet replace (now streams) (now ages) × (602 ≤ length (now words)) ⌝ }
+    requires { ⌜ (0 < reached) × (reached ≤ sheet .horizon) × ((p : PlanningSheet) → sheet ≡ parsed p → WordsHeld p reached (now words)) ⌝ }
+    ensures reached { λ r. ⌜ r ≡ reached - 1 - 1 ⌝ }
+    ensures words { λ _. ⌜ ((p : PlanningSheet) → sheet ≡ parsed p → now (words .exit) ≡ withYear p (reached - 1 - 1) (withYear p (reached - 1) (now (words .entry)))) ⌝ }
+{
+    let horizon = sheet.horizon;
+    let terms = sheet.options[REPLACE];
+    let start = reached - 1;
+    let from = before(start);
+    let kept = Kept {
+        terms: terms,
+        discount: sheet.discount,
+        from: from,
+    };
+    let next = Kept {
+        terms: terms,
+        discount: sheet.discount,
+        from: start,
+    };
+    let years = weighing::least(terms.longest, horizon - from);
+    let mut earlier = [0u64; 120];
+    let mut later = [0u64; 120];
+    arcs::two_starts(
+        &mut earlier,
+        &mut later,
+        streams,
+        ages,
+        kept,
+        start,
+        discount,
+        horizon,
+        years,
+    );
+    word(words, &later, next, horizon);
+    word(words, &earlier, kept, horizon);
+    from
+}
 
 // Writes word y and word 301 + y for y from T down to 0.
 pub fn fill(words: &mut [u64], streams: &[u64], ages: &[u64; 8], sheet: Sheet, discount: Divisor)
@@ -24,23 +98,10 @@ pub fn fill(words: &mut [u64], streams: &[u64], ages: &[u64; 8], sheet: Sheet, d
     ensures { λ _. ⌜ ((p : PlanningSheet) → sheet ≡ parsed p → now (words .exit) ≡ tailWords p (now (words .entry))) ⌝ }
 {
     let horizon = sheet.horizon;
-    let terms = sheet.options[REPLACE];
     words[horizon as usize] = 0;
     words[301 + horizon as usize] = 0;
     let mut y = horizon;
     while 0 < y {
-        y -= 1;
-        let kept = Kept {
-            terms: terms,
-            discount: sheet.discount,
-            from: y,
-        };
-        let none = Best {
-            total: weighing::NONE,
-            end: 0,
-        };
-        let chosen = weighing::best_end(words, streams, ages, kept, discount, horizon, none);
-        words[y as usize] = chosen.total;
-        words[301 + y as usize] = chosen.end;
+        y = two_years(words, streams, ages, sheet, discount, y);
     }
 }
