@@ -27,6 +27,15 @@ pub record TailsLent (s : Sheet) (words : List ℕ) : Type 0 where
   pub room : 301 ≤ length words
   pub totals : (p : PlanningSheet) → s ≡ parsed p → (y : ℕ) → y ≤ p .horizon → wordOf words y ≡ tail p y .total
 
+-- the ends of the first replacements from each year, once they are written
+pub record FirstsLent (s : Sheet) (firsts : List ℕ) : Type 0 where
+  pub room : 301 ≤ length firsts
+  pub held : (p : PlanningSheet) → s ≡ parsed p → (y : ℕ) → y ≤ p .horizon → getD firsts y 0 ≡ firstOf (tail p y .ends)
+
+-- replacements lead from year j to the horizon
+abbrev pub Leads : Sheet → (j : ℕ) → Type 0
+Leads s j = (p : PlanningSheet) → s ≡ parsed p → tail p j .total ≡ noTotal → ⊥
+
 -- the choice of the end of an option that may also have length 0, which costs nothing
 abbrev pub bestKept : Kept → (T : ℕ) → (words : ℕ → ℕ) → Best
 bestKept a T words =

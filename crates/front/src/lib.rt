@@ -8,16 +8,12 @@ ghost use Rattle.sheet.specs.Sheet.{PlanningSheet};
 ghost use Rattle.sheet.specs.Parsed.{parsed, IsParsed};
 ghost use Rattle.checking.specs.Fit.{Fit};
 ghost use Rattle.costing.specs.Fit.{Divides};
-ghost use Rattle.choice.specs.Running.{noTotal};
-ghost use Rattle.tails.specs.Best.{wordOf};
 ghost use Rattle.front.specs.Planned.{planned};
-ghost use Rattle.front.specs.Front.{front, TailsLent, Follows};
+ghost use Rattle.front.specs.Front.{front, TailsLent, FirstsLent, Leads, Follows};
 use division::Divisor;
 use sheet::Sheet;
-use tails::lending;
 use tails::weighing;
 
-mod following;
 mod keeping;
 mod maintaining;
 mod renovating;
@@ -26,8 +22,6 @@ mod renovating;
 const MAINTAIN: usize = 0;
 
 const RENOVATE: usize = 1;
-
-const REPLACE: usize = 2;
 
 // How the chosen chain begins: its total, the end of maintaining and the end of renovating.
 pub struct Front {
@@ -63,14 +57,19 @@ pub fn best_front(words: &[u64], sheet: Sheet, discount: Divisor) -> Front
     }
 }
 
-// Writes the ends of the chosen replacements from year j on, and answers how many there are.
-pub fn ends_from(ends: &mut [u64], words: &[u64], sheet: Sheet, discount: Divisor, j: u64) -> usize
-    requires { ⌜ Fit sheet × IsParsed sheet × Divides discount (sheet .discount) ⌝ }
-    requires { ⌜ TailsLent sheet (now words) × (j ≤ sheet .horizon) × (wordOf (now words) j ≡ noTotal → ⊥) ⌝ }
-    requires { ⌜ 300 ≤ length (now ends) ⌝ }
+// Writes the ends of the chosen replacements from year j on, one after the other, and answers how many there are. `firsts` has the end of
+// the first replacement from each year.
+pub fn ends_from(ends: &mut [u64], firsts: &[u64], sheet: Sheet, j: u64) -> usize
+    requires { ⌜ Fit sheet × IsParsed sheet × FirstsLent sheet (now firsts) ⌝ }
+    requires { ⌜ (j ≤ sheet .horizon) × Leads sheet j × (300 ≤ length (now ends)) ⌝ }
     ensures { λ r. ⌜ ((p : PlanningSheet) → sheet ≡ parsed p → Follows p j r (now (ends .exit))) ⌝ }
 {
-    let mut streams = [0u64; streams::PLACES];
-    let ages = lending::lend(&mut streams, sheet, discount, REPLACE);
-    following::follow(ends, words, &streams, &ages, sheet, discount, j)
+    let mut year = j;
+    let mut count: usize = 0;
+    while year < sheet.horizon {
+        year = firsts[year as usize];
+        ends[count] = year;
+        count += 1;
+    }
+    count
 }

@@ -1,21 +1,22 @@
 -- What the code has found is the planned chain: how it begins, and the ends that were followed from there (`found-read`), by the words that
--- have been written (`tails-lent`). Assumes nothing.
-use Prim.Native.Nat.{ℕ, _≤_}
+-- have been written (`tails-lent`, `firsts-lent`). Assumes nothing.
+use Prim.Native.Nat.{ℕ, _+_, _≤_}
 use mathlib.Core.Path.{_≡_, ap, sym, _∙_}
 use mathlib.Core.List.{List}
 use native.Mathlib.Omega.{arith}
-use lib.ListN.{length, getD, take, drop, length-take}
+use lib.ListN.{length, getD, take, drop, length-take, length-drop}
+use lib.Seq.{getD-drop}
 use Rattle.sheet.specs.Sheet.{PlanningSheet}
 use Rattle.sheet.specs.Parsed.{parsed}
 use Rattle.sheet.specs.declared.Sheet.{Sheet}
 use Rattle.sheet.proofs.ParsedLaws.{horizon-read}
 use Rattle.chain.specs.Chain.{Chain}
 use Rattle.choice.specs.Running.{noTotal}
-use Rattle.tails.specs.Words.{tailWords}
-use Rattle.tails.specs.Best.{wordOf}
+use Rattle.tails.specs.Tail.{tail}
+use Rattle.tails.specs.Words.{firstEnd, tailWords}
 use Rattle.tails.proofs.WordLaws.{tail-words-read}
 use Rattle.front.specs.Planned.{planned}
-use Rattle.front.specs.Front.{front, TailsLent, Follows}
+use Rattle.front.specs.Front.{front, TailsLent, FirstsLent, Follows}
 use Rattle.front.specs.declared.Front.{Front}
 use Rattle.front.proofs.TakenLaws.{planned-begins}
 use Rattle.planner.specs.Planning.{found}
@@ -36,14 +37,20 @@ module _ (p : PlanningSheet) (f : Front) (read : f ≡ front (planned p)) (there
   pub found-few : count ≤ length ends
   found-few = omega (arith, length-take count ends, ap length (follows .1), follows .0)
 
--- once they are written, the words have the totals of replacements from each year
-pub tails-lent :
-    (s : Sheet) → s .horizon ≤ 300 → (before after : List ℕ) → 602 ≤ length before → length after ≡ length before
-    → ((p : PlanningSheet) → s ≡ parsed p → after ≡ tailWords p before) → TailsLent s after
-tails-lent s far before after room same lent =
-    record {
-      room = omega arith;
-      totals =
-          λ p read y l.
-          ap (λ (l : List ℕ). wordOf l y) (lent p read) ∙ tail-words-read p before (omega (arith, horizon-read s p read)) room y l .0;
-    }
+-- once they are written, the words have the totals of replacements from each year, and the end of the first of them
+module _ (s : Sheet) (far : s .horizon ≤ 300) (before after : List ℕ) (room : 602 ≤ length before) (same : length after ≡ length before)
+    (lent : (p : PlanningSheet) → s ≡ parsed p → after ≡ tailWords p before) where
+  words-lent :
+      (p : PlanningSheet) → s ≡ parsed p → (y : ℕ) → y ≤ p .horizon
+      → (getD after y 0 ≡ tail p y .total) × (getD after (301 + y) 0 ≡ firstEnd (tail p y))
+  words-lent p read y l = rw (lent p read) (tail-words-read p before (omega (arith, horizon-read s p read)) room y l)
+
+  pub tails-lent : TailsLent s after
+  tails-lent = record { room = omega arith; totals = λ p read y l. words-lent p read y l .0 }
+
+  pub firsts-lent : FirstsLent s (drop 301 after)
+  firsts-lent =
+      record {
+        room = simp length-drop (omega arith);
+        held = λ p read y l. getD-drop 301 after y 0 ∙ words-lent p read y l .1;
+      }

@@ -1,11 +1,11 @@
 // The plan of the chosen chain.
 
 ghost use mathlib.Core.Path.{_≡_};
-ghost use lib.ListN.{length};
+ghost use lib.ListN.{length, drop};
 ghost use Rattle.sheet.specs.Sheet.{PlanningSheet};
 ghost use Rattle.sheet.specs.Parsed.{parsed, IsParsed};
 ghost use Rattle.checking.specs.Fit.{Fit};
-ghost use Rattle.front.specs.Front.{TailsLent};
+ghost use Rattle.front.specs.Front.{TailsLent, FirstsLent};
 ghost use Rattle.planner.specs.Planning.{planning, planWritten};
 use checking::Answer;
 use division::Divisor;
@@ -14,7 +14,7 @@ use tails::weighing;
 
 // Finds the chosen chain by the words, and writes its plan where there is one and the buffer is long enough for it.
 pub fn write_chosen(sheet: Sheet, plan: &mut [u8], words: &[u64]) -> Answer
-    requires { ⌜ Fit sheet × IsParsed sheet × TailsLent sheet (now words) ⌝ }
+    requires { ⌜ Fit sheet × IsParsed sheet × TailsLent sheet (now words) × FirstsLent sheet (drop 301 (now words)) ⌝ }
     ensures answer { λ r. ⌜ ((p : PlanningSheet) → sheet ≡ parsed p → r ≡ planning p (length (now (plan .entry)))) ⌝ }
     ensures plan { λ _. ⌜ ((p : PlanningSheet) → sheet ≡ parsed p → now (plan .exit) ≡ planWritten p (now (plan .entry))) ⌝ }
 {
@@ -26,7 +26,7 @@ pub fn write_chosen(sheet: Sheet, plan: &mut [u8], words: &[u64]) -> Answer
         return checking::refused(11, 3);
     }
     let mut ends = [0u64; 300];
-    let count = front::ends_from(&mut ends, words, sheet, discount, j);
+    let count = front::ends_from(&mut ends, &words[301..], sheet, j);
     if plan.len() < 19 + 2 * count {
         return checking::refused(12, 3);
     }

@@ -3,7 +3,7 @@
 use Prim.Native.Nat.{ℕ, _≤_}
 use mathlib.Core.Path.{_≡_, ap, sym, subst, _∙_}
 use native.Mathlib.Omega.{arith}
-use lib.ListN.{length}
+use lib.ListN.{length, drop}
 use denote.Ref.{now}
 use Rattle.sheet.specs.Sheet.{sheetOf}
 use Rattle.checking.specs.Answer.{refused}
@@ -12,9 +12,9 @@ use Rattle.checking.specs.Passes.{Passes}
 use Rattle.checking.specs.Fit.{Fit}
 use Rattle.checking.specs.declared.Answer.{Answer}
 use Rattle.checking.proofs.FitLaws.{fit}
-use Rattle.front.specs.Front.{TailsLent}
+use Rattle.front.specs.Front.{TailsLent, FirstsLent}
 use Rattle.planner.proofs.PlanningLaws.{plan-refused, plan-few, plan-on}
-use Rattle.planner.proofs.FoundLaws.{tails-lent}
+use Rattle.planner.proofs.FoundLaws.{tails-lent, firsts-lent}
 use Rattle.planner.proofs.Demands.{met}
 use borrow.Author.Needs.{needs}
 use Rattle.planner.proofs.plan.Statement.{statement}
@@ -49,10 +49,16 @@ enough c = omega (arith, c .if2 .left)
 fits : (c : tie.After-parse) → Fit (c .parse .result)
 fits c = subst Fit (sym (c .parse .ensures)) (fit _ (passes (c .before .before)))
 
-lent : (c : tie.After-tail-words) → TailsLent (c .before .before .parse .result) (c .tail-words .last .0)
+lent :
+    (c : tie.After-tail-words)
+    → TailsLent (c .before .before .parse .result) (c .tail-words .last .0)
+    × FirstsLent (c .before .before .parse .result) (drop 301 (c .tail-words .last .0))
 lent c =
     let q = c .before .before in
-    tails-lent _ (fits q .horizonHigh) _ _ (enough (q .before)) (c .tail-words .kept .0) (c .tail-words .ensures .0)
+    let far = fits q .horizonHigh in (
+      tails-lent _ far _ _ (enough (q .before)) (c .tail-words .kept .0) (c .tail-words .ensures .0),
+      firsts-lent _ far _ _ (enough (q .before)) (c .tail-words .kept .0) (c .tail-words .ensures .0),
+    )
 
 returns-3 : tie.Need-returns-3
 returns-3 c =
@@ -82,7 +88,7 @@ write-chosen-requires : tie.Need-write-chosen-requires
 write-chosen-requires c κs =
     let t = c .before .before .before .before in
     let q = t .before .before in
-    (fits q, (sheetOf _, q .parse .ensures), lent t)
+    (fits q, (sheetOf _, q .parse .ensures), lent t .0, lent t .1)
 
 same-length : tie.Need-same-length
 same-length c = search needs
