@@ -1,4 +1,5 @@
--- Refusals 7 to 9 as the code tests them, on factors and on the lists of eight, are those of document 01. Assumes nothing.
+-- Refusals 7 to 9 as the code tests them, on factors and entry by entry, are those of document 01; and what the lists of eight hold.
+-- Assumes nothing.
 use Prim.Native.Nat.{ℕ, suc, _+_, _*_, _≤_, _<_}
 use mathlib.Core.Path.{_≡_, refl, ap, _∙_}
 use mathlib.Core.Bool.{Bool, true, false, _&&_, _||_, and-false, false≢true}
