@@ -1,5 +1,5 @@
 -- Laws of `Answer.antt`. In order:
---     unless-pass, unless-stop, unless-same, unless-le, unless-iff      a row of the table; it gives 0 exactly when its rule holds and
+--     unless-pass, unless-stop, unless-le, unless-iff      a row of the table; it gives 0 exactly when its rule holds and
 --     what comes after gives 0
 --     answered-some, answered-iff      a number that is not 0 is a refusal
 --     orElse-pass, orElse-stop, orElse-iff, first-zero, first-suc, first-found, first-iff      the first refusal of several; there is
@@ -28,10 +28,6 @@ unless-pass n next h = rw h
 pub unless-stop : (n : ℕ) {rule : Bool} (next : ℕ) → rule ≡ false → (n unless rule else next) ≡ n
 unfolding _unless_else_
 unless-stop n next h = rw h
-
--- a row, of equal rules and equal rests
-pub unless-same : (n : ℕ) {a b : Bool} {x y : ℕ} → a ≡ b → x ≡ y → (n unless a else x) ≡ (n unless b else y)
-unless-same n p q = λ i. n unless p i else q i
 
 pub unless-le : (n : ℕ) (rule : Bool) (next m : ℕ) → n ≤ m → next ≤ m → (n unless rule else next) ≤ m
 unfolding _unless_else_

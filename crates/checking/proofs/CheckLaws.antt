@@ -6,9 +6,6 @@ use mathlib.Core.Bool.{true, false}
 use mathlib.Core.Logic.{_↔_}
 use native.Mathlib.Omega.{arith}
 use Rattle.sheet.specs.Sheet.{OptionRecord, sheetOf}
-use Rattle.sheet.specs.Parsed.{parsed}
-use Rattle.sheet.specs.declared.Sheet.{Sheet}
-use Rattle.sheet.proofs.ParsedLaws.{discount-read}
 use Rattle.checking.specs.Answer.{accepted, refused, _unless_else_, firstBelow}
 use Rattle.checking.specs.Refusals.{overhaulOk, overhaulAnswer, headerNumber, fieldsNumber, optionAnswer, checked}
 use Rattle.checking.specs.Passes.{Passes}
@@ -21,11 +18,8 @@ pub met : (s : List ℕ) (a b : Answer) → a ≡ b → b ≡ checked s → (a �
 met s a b p q = (p ∙ q, rw (p ∙ q) (checked-iff s))
 
 -- the discount factor of a sheet whose header passes
-pub discount-small : (s : List ℕ) (p : Sheet) → p ≡ parsed (sheetOf s) → headerNumber s ≡ 0 → p .discount ≤ 1_200_000
-discount-small s p read h =
-    let d = discount-read p (sheetOf s) read in
-    let r = header-iff s .0 h .rate in
-    omega arith
+pub discount-small : (s : List ℕ) (discount : ℕ) → discount ≡ 1_000_000 + sheetOf s .rate → headerNumber s ≡ 0 → discount ≤ 1_200_000
+discount-small s discount d h = let r = header-iff s .0 h .rate in omega arith
 
 -- a turn of the inner loop
 pub next-overhaul :

@@ -4,7 +4,6 @@ ghost use mathlib.Core.Path.{_≡_};
 ghost use lib.ListN.{length};
 ghost use Rattle.sheet.specs.Layout.{sheetLength};
 ghost use Rattle.checking.specs.Refusals.{markOk, headerNumber};
-use crate::unless;
 use sheet::fields;
 
 fn mark_ok(s: &[u8]) -> bool
@@ -21,16 +20,17 @@ pub fn header_number(s: &[u8]) -> u8
     if s.len() != sheet::SHEET_LENGTH {
         return 1;
     }
-    let mark = mark_ok(s) & (fields::u16_at(s, 3) == 1);
-    let horizon = fields::u16_at(s, 5);
+    let version = fields::u16_at(s, 3);
+    if !(mark_ok(s) & (version == 1)) {
+        return 2;
+    }
+    let horizon = sheet::horizon_of(s);
+    if !((1 <= horizon) & (horizon <= 300)) {
+        return 3;
+    }
     let rate = fields::u32_at(s, 7);
-    unless(
-        2,
-        mark,
-        unless(
-            3,
-            (1 <= horizon) & (horizon <= 300),
-            unless(4, rate <= 200_000, 0),
-        ),
-    )
+    if rate > 200_000 {
+        return 4;
+    }
+    0
 }

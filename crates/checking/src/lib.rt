@@ -3,7 +3,7 @@
 
 ghost use mathlib.Core.Path.{_≡_};
 ghost use mathlib.Core.Logic.{_↔_};
-ghost use Rattle.checking.specs.Answer.{accepted, refused, _unless_else_};
+ghost use Rattle.checking.specs.Answer.{accepted, refused};
 ghost use Rattle.checking.specs.Refusals.{checked};
 ghost use Rattle.checking.specs.Passes.{Passes};
 
@@ -17,7 +17,7 @@ pub struct Answer {
     pub option: u8,
 }
 
-// An accepted call, and a refused one. They serve the crates above too, as `unless` does.
+// An accepted call, and a refused one. They serve the crates above too.
 pub fn accepted(total: u64) -> Answer
     ensures { λ r. ⌜ r ≡ accepted total ⌝ }
 {
@@ -38,14 +38,8 @@ pub fn refused(number: u8, option: u8) -> Answer
     }
 }
 
-// A row of the refusal table: `number` where the rule does not hold, else `next`.
-pub fn unless(number: u8, holds: bool, next: u8) -> u8
-    ensures { λ r. ⌜ r ≡ (number unless holds else next) ⌝ }
-{
-    if holds { next } else { number }
-}
-
-// The first refusal of a sheet: 1 to 4, then option by option and, inside one, overhaul by overhaul.
+// The first refusal of a sheet: 1 to 4, then option by option and, inside one, overhaul by overhaul. A field is read where it is tested, so
+// that nothing is stored.
 pub fn check(sheet: &[u8]) -> Answer
     ensures answer { λ r. ⌜ r ≡ checked (now (sheet .entry)) ⌝ }
     ensures accepted { λ r. ⌜ (r .number ≡ 0) ↔ Passes (now (sheet .entry)) ⌝ }
@@ -54,24 +48,28 @@ pub fn check(sheet: &[u8]) -> Answer
     if header != 0 {
         return refused(header, 3);
     }
-    let parsed = sheet::parse(sheet);
-    let discount = parsed.discount;
+    let discount = sheet::discount_of(sheet);
     let mut k: u8 = 0;
     'options: loop {
         if k == 3 {
             break 'options accepted(0);
         }
-        let terms = parsed.options[k as usize];
+        let o = k as usize;
+        let terms = sheet::terms_of(sheet, o);
         let number = option::fields_number(discount, terms);
         if number != 0 {
             break 'options refused(number, k);
         }
-        let overhauls = terms.overhauls;
+        let count = terms.overhauls.count;
+        let mut last = 0;
         let mut j: usize = 0;
         while j < 8 {
-            if !option::overhaul_ok(overhauls, j) {
+            let age = sheet::age_of(sheet, o, j);
+            let amount = sheet::amount_of(sheet, o, j);
+            if !option::entry_ok(count, j as u64, last, age, amount) {
                 break 'options refused(9, k);
             }
+            last = age;
             j += 1;
         }
         k += 1;

@@ -2,14 +2,12 @@
 // A contract says what a rule of document 01 gives for every record of which the terms are the parsed form.
 
 ghost use mathlib.Core.Path.{_≡_};
-ghost use Prim.Native.Nat.{ℕ, _+_, _<_, _≤_};
+ghost use Prim.Native.Nat.{ℕ, _+_, _≤_};
 ghost use lib.IntN.{ℤ};
 ghost use Rattle.sheet.specs.Sheet.{Expense, OptionRecord, factor};
-ghost use Rattle.sheet.specs.Parsed.{listed, flowOf, overhaulsOf, termsOf};
-ghost use Rattle.checking.specs.Refusals.{livesOk, amountsOk, inflationOk, inflationsOk, ageingOk, ageingsOk, entryOk, ageBefore, overhaulOk, fieldsNumber};
-use crate::unless;
+ghost use Rattle.sheet.specs.Parsed.{flowOf, termsOf};
+ghost use Rattle.checking.specs.Refusals.{livesOk, amountsOk, inflationOk, inflationsOk, ageingOk, ageingsOk, entryOk, fieldsNumber};
 use sheet::Flow;
-use sheet::Overhauls;
 use sheet::Terms;
 
 // 5: both lives 0, or in order and at most 120
@@ -72,36 +70,14 @@ fn ageings_ok(discount: u64, t: Terms) -> bool
     ageing_ok(discount, maintenance) & ageing_ok(discount, electricity)
 }
 
-// The age of the overhaul before the `j`-th, 0 before the first.
-fn age_before(ages: [u64; 8], j: usize) -> u64
-    requires { ⌜ j < 8 ⌝ }
-    ensures { λ r. ⌜ ((o : OptionRecord) → ages ≡ listed 8 (λ i. o .overhaul i .age) → r ≡ ageBefore o j) ⌝ }
-{
-    if j == 0 { 0 } else { ages[j - 1] }
-}
-
-// 9: an entry below the count has an age of 1 to 119 above the one before and an amount of at most 10^9; another is zero
-fn entry_ok(count: u64, j: u64, before: u64, age: u64, amount: u64) -> bool
+// 9: an entry below the count has an age of at most 119 above the one before, so at least 1, and an amount of at most 10^9; another is zero
+pub fn entry_ok(count: u64, j: u64, before: u64, age: u64, amount: u64) -> bool
     ensures { λ b. ⌜ b ≡ entryOk count j before age amount ⌝ }
 {
-    let used = (1 <= age) & (age <= 119) & (before < age) & (amount <= 1_000_000_000);
-    ((j < count) & used) | ((count <= j) & ((age == 0) & (amount == 0)))
-}
-
-// 9, of entry `j`
-pub fn overhaul_ok(overhauls: Overhauls, j: usize) -> bool
-    requires { ⌜ j < 8 ⌝ }
-    ensures { λ b. ⌜ ((o : OptionRecord) → overhauls ≡ overhaulsOf o → b ≡ overhaulOk o j) ⌝ }
-{
-    let ages = overhauls.ages;
-    let before = age_before(ages, j);
-    entry_ok(
-        overhauls.count,
-        j as u64,
-        before,
-        overhauls.ages[j],
-        overhauls.amounts[j],
-    )
+    if j < count {
+        return (before < age) & (age <= 119) & (amount <= 1_000_000_000);
+    }
+    (age == 0) & (amount == 0)
 }
 
 // The first of 5 to 9, the overhauls' entries left out, or 0.
@@ -109,18 +85,20 @@ pub fn fields_number(discount: u64, t: Terms) -> u8
     requires { ⌜ discount ≤ 1_200_000 ⌝ }
     ensures { λ n. ⌜ ((r : ℕ) (o : OptionRecord) → discount ≡ 1_000_000 + r → t ≡ termsOf o → n ≡ fieldsNumber r o) ⌝ }
 {
-    let lives = lives_ok(t);
-    let amounts = amounts_ok(t);
-    let inflations = inflations_ok(discount, t);
-    let ageings = ageings_ok(discount, t);
-    let count = t.overhauls.count <= 8;
-    unless(
-        5,
-        lives,
-        unless(
-            6,
-            amounts,
-            unless(7, inflations, unless(8, ageings, unless(9, count, 0))),
-        ),
-    )
+    if !lives_ok(t) {
+        return 5;
+    }
+    if !amounts_ok(t) {
+        return 6;
+    }
+    if !inflations_ok(discount, t) {
+        return 7;
+    }
+    if !ageings_ok(discount, t) {
+        return 8;
+    }
+    if t.overhauls.count > 8 {
+        return 9;
+    }
+    0
 }

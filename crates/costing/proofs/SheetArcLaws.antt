@@ -1,7 +1,7 @@
--- An arc of a sheet: what the code holds of it (`kept-read`, `cost-paid`), and what a sheet that passes the checks gives of it: room for
--- its steps (`keptOf-fits`), what the laws of the error ask (`arc-fits`), and how large its cost can be (`keptOf-room`, `cost-le`).
+-- An arc of a sheet: what the code holds of it (`kept-made`, `kept-read`, `cost-paid`), and what a sheet that passes the checks gives of it: room for
+-- its steps (`keptOf-fits`, `kept-fits`), what the laws of the error ask (`arc-fits`), and how large its cost can be (`keptOf-room`, `cost-le`).
 -- Assumes nothing.
-use Prim.Native.Nat.{ℕ, _-_, _*_, _≤_}
+use Prim.Native.Nat.{ℕ, _+_, _-_, _*_, _≤_}
 use mathlib.Core.Path.{_≡_, refl, ap, sym, subst}
 use native.Mathlib.Omega.{arith}
 use lib.ListN.{getD}
@@ -39,13 +39,19 @@ pub keptOf-room :
 keptOf-room s fit other option start end known forward inside e =
     rw e (paid-le (keptOf s other option start) (keptOf-fits s fit other option start known (omega arith)) (end - start) (omega arith))
 
+-- and from the terms of its record
+abbrev pub keptFrom : Terms → (discount start : ℕ) → Kept
+keptFrom terms discount start = record { terms = terms; discount = discount; from = start }
+
 module _ (p : PlanningSheet) (option start end : ℕ) where
-  pub kept-read : (s : Sheet) (other : Terms) → s ≡ parsed p → option ≤ 2 → keptOf s other option start ≡ arcOf p option start end .kept
+  pub kept-made :
+      {terms : Terms} {discount : ℕ} → terms ≡ termsOf (p .option option) → discount ≡ 1_000_000 + p .rate
+      → keptFrom terms discount start ≡ arcOf p option start end .kept
   unfolding arcOf
-  kept-read s other read known =
-      let terms = terms-read s p read option other (omega arith) in
-      let discount = discount-read s p read in
-      λ i. record { terms = terms i; discount = discount i; from = start }
+  kept-made t d = λ i. keptFrom (t i) (d i) start
+
+  pub kept-read : (s : Sheet) (other : Terms) → s ≡ parsed p → option ≤ 2 → keptOf s other option start ≡ arcOf p option start end .kept
+  kept-read s other read known = kept-made (terms-read s p read option other (omega arith)) (discount-read s p read)
 
   -- the cost of the arc, of the option that is kept
   pub cost-paid : (k : Kept) → k ≡ arcOf p option start end .kept → worth k (paid k (end - start)) ≡ cost (arcOf p option start end)
@@ -54,7 +60,7 @@ module _ (p : PlanningSheet) (option start end : ℕ) where
 
   -- of a sheet that passes the checks
   module _ (fit : Fit (parsed p)) where
-    kept-fits : option ≤ 2 → start ≤ p .horizon → KeptFits (arcOf p option start end .kept)
+    pub kept-fits : option ≤ 2 → start ≤ p .horizon → KeptFits (arcOf p option start end .kept)
     kept-fits known early =
         let other = termsOf (p .option option) in
         subst KeptFits (kept-read (parsed p) other refl known)

@@ -55,6 +55,21 @@ pub fn arc_cost(sheet: Sheet, option: u64, start: u64, end: u64) -> Units
     kept.cost(Divisor::of(sheet.discount), end - start)
 }
 
+// The same, of a sheet in bytes that offers the arc: of the three records only the option's is read.
+fn arc_on(sheet: &[u8], option: u64, start: u64, end: u64) -> Units
+    requires { ⌜ Passes (now sheet) × Offered (sheetOf (now sheet)) option start end ⌝ }
+    ensures { λ r. ⌜ r .0 ≡ cost (arcOf (sheetOf (now (sheet .entry))) option start end) ⌝ }
+{
+    let terms = sheet::terms_of(sheet, option as usize);
+    let discount = sheet::discount_of(sheet);
+    let kept = Kept {
+        terms: terms,
+        discount: discount,
+        from: start,
+    };
+    kept.cost(Divisor::of(discount), end - start)
+}
+
 // The cost of an arc: of an option kept from year start to year end.
 pub fn cost(sheet: &[u8], option: u64, start: u64, end: u64) -> Answer
     ensures answer { λ r. ⌜ r ≡ costed (now (sheet .entry)) option start end ⌝ }
@@ -65,10 +80,9 @@ pub fn cost(sheet: &[u8], option: u64, start: u64, end: u64) -> Answer
     if checked.number != 0 {
         return checked;
     }
-    let parsed = sheet::parse(sheet);
-    if !offer::offered(parsed, option, start, end) {
+    if !offer::offered_on(sheet, option, start, end) {
         return checking::refused(13, 3);
     }
-    let units = arc_cost(parsed, option, start, end);
+    let units = arc_on(sheet, option, start, end);
     checking::accepted(units.0)
 }

@@ -1,7 +1,9 @@
 // Which arcs a sheet offers: row 13 of document 01's refusal table.
 
 ghost use mathlib.Core.Path.{_≡_};
-ghost use Rattle.sheet.specs.Sheet.{PlanningSheet};
+ghost use lib.ListN.{length};
+ghost use Rattle.sheet.specs.Layout.{sheetLength};
+ghost use Rattle.sheet.specs.Sheet.{PlanningSheet, sheetOf};
 ghost use Rattle.sheet.specs.Parsed.{parsed};
 ghost use Rattle.costing.specs.Offered.{placed, lengthOffered, offered};
 use sheet::Sheet;
@@ -20,7 +22,7 @@ fn length_offered(shortest: u64, longest: u64, option: u64, n: u64) -> bool
     ((1 <= n) & (shortest <= n) & (n <= longest)) | ((n == 0) & (option <= 1))
 }
 
-// Whether the sheet offers the arc.
+// Whether the sheet offers the arc: a parsed sheet, and one in bytes.
 pub fn offered(sheet: Sheet, option: u64, start: u64, end: u64) -> bool
     ensures { λ b. ⌜ ((p : PlanningSheet) → sheet ≡ parsed p → b ≡ offered p option start end) ⌝ }
 {
@@ -28,5 +30,16 @@ pub fn offered(sheet: Sheet, option: u64, start: u64, end: u64) -> bool
         return false;
     }
     let terms = sheet.options[option as usize];
+    length_offered(terms.shortest, terms.longest, option, end - start)
+}
+
+pub fn offered_on(sheet: &[u8], option: u64, start: u64, end: u64) -> bool
+    requires { ⌜ length (now sheet) ≡ sheetLength ⌝ }
+    ensures { λ b. ⌜ b ≡ offered (sheetOf (now (sheet .entry))) option start end ⌝ }
+{
+    if !placed(sheet::horizon_of(sheet), option, start, end) {
+        return false;
+    }
+    let terms = sheet::terms_of(sheet, option as usize);
     length_offered(terms.shortest, terms.longest, option, end - start)
 }

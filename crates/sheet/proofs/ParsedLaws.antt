@@ -6,7 +6,7 @@ use mathlib.Core.List.{List}
 use native.Mathlib.Nat.{le-of-suc-le-suc, not-suc-le-zero}
 use lib.ListN.{getD}
 use Rattle.sheet.specs.Sheet.{PlanningSheet, onceAt, optionAt, sheetOf}
-use Rattle.sheet.specs.Parsed.{listed, overhaulsOf, termsOf, parsed}
+use Rattle.sheet.specs.Parsed.{listed, termsOf, parsed}
 use Rattle.sheet.specs.declared.Sheet.{Sheet}
 use Rattle.sheet.specs.declared.Terms.{Terms}
 
@@ -32,10 +32,6 @@ module _ (s : Sheet) (p : PlanningSheet) (read : s ≡ parsed p) where
 
   pub terms-read : (k : ℕ) (other : Terms) → k < 3 → getD (s .options) k other ≡ termsOf (p .option k)
   terms-read k other h = rw read (getD-options p k other h)
-
-  pub overhauls-read : (k : ℕ) (other : Terms) → k < 3 → getD (s .options) k other .overhauls ≡ overhaulsOf (p .option k)
-  unfolding termsOf
-  overhauls-read k other h = ap (λ (t : Terms). t .overhauls) (terms-read k other h)
 
 -- an investment does not age
 pub investment-ageing : (s : List ℕ) (k : ℕ) → sheetOf s .option k .investment .ageing ≡ 0

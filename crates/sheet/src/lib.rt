@@ -1,25 +1,23 @@
 // A planning sheet of 278 bytes, read into structs by value. Document 01, 'The planning sheet'.
-// Nothing here is a public call: `parse` and the readers of `fields` serve the crates above, which meet what they require.
+// Nothing here is a public call: `parse`, the readers of single fields and those of `fields` serve the crates above, which meet what they
+// require.
 
 ghost use mathlib.Core.Path.{_≡_};
+ghost use Prim.Native.Nat.{_+_, _<_};
 ghost use lib.ListN.{length};
 ghost use Rattle.sheet.specs.Layout.{sheetLength};
 ghost use Rattle.sheet.specs.Sheet.{sheetOf};
-ghost use Rattle.sheet.specs.Parsed.{parsed};
+ghost use Rattle.sheet.specs.Parsed.{termsOf, parsed};
 
 pub mod fields;
 mod record;
 
-// Where the three records start, and where the last one ends.
+// Where the first of the three records starts, and how long each is.
+const RECORDS: usize = 11;
+
 const RECORD_LENGTH: usize = 89;
 
-const MAINTAIN: usize = 11;
-
-const RENOVATE: usize = MAINTAIN + RECORD_LENGTH;
-
-const REPLACE: usize = RENOVATE + RECORD_LENGTH;
-
-pub const SHEET_LENGTH: usize = REPLACE + RECORD_LENGTH;
+pub const SHEET_LENGTH: usize = RECORDS + RECORD_LENGTH * 3;
 
 // An amount with the factors of its rates: `grow` is 1,000,000 + inflation, `age` is 1,000,000 + ageing.
 pub struct Flow {
@@ -53,17 +51,54 @@ pub struct Sheet {
     pub options: [Terms; 3],
 }
 
-// The fields of a sheet of the right length, whatever they hold.
+// Single fields of a sheet of the right length, for a caller that needs no more: T, the discount factor, the terms of option `k`, and the
+// age and the amount of its overhaul `j`.
+pub fn horizon_of(s: &[u8]) -> u64
+    requires { ⌜ length (now s) ≡ sheetLength ⌝ }
+    ensures { λ r. ⌜ r ≡ sheetOf (now (s .entry)) .horizon ⌝ }
+{
+    fields::u16_at(s, 5)
+}
+
+pub fn discount_of(s: &[u8]) -> u64
+    requires { ⌜ length (now s) ≡ sheetLength ⌝ }
+    ensures { λ r. ⌜ r ≡ 1_000_000 + sheetOf (now (s .entry)) .rate ⌝ }
+{
+    1_000_000 + fields::u32_at(s, 7)
+}
+
+pub fn terms_of(s: &[u8], k: usize) -> Terms
+    requires { ⌜ (length (now s) ≡ sheetLength) × (k < 3) ⌝ }
+    ensures { λ r. ⌜ r ≡ termsOf (sheetOf (now (s .entry)) .option k) ⌝ }
+{
+    record::terms_at(s, RECORDS + RECORD_LENGTH * k)
+}
+
+pub fn age_of(s: &[u8], k: usize, j: usize) -> u64
+    requires { ⌜ (length (now s) ≡ sheetLength) × (k < 3) × (j < 8) ⌝ }
+    ensures { λ r. ⌜ r ≡ sheetOf (now (s .entry)) .option k .overhaul j .age ⌝ }
+{
+    fields::u16_at(s, RECORDS + RECORD_LENGTH * k + (41 + 6 * j))
+}
+
+pub fn amount_of(s: &[u8], k: usize, j: usize) -> u64
+    requires { ⌜ (length (now s) ≡ sheetLength) × (k < 3) × (j < 8) ⌝ }
+    ensures { λ r. ⌜ r ≡ sheetOf (now (s .entry)) .option k .overhaul j .amount ⌝ }
+{
+    fields::u32_at(s, RECORDS + RECORD_LENGTH * k + (43 + 6 * j))
+}
+
+// All fields of a sheet of the right length, whatever they hold.
 pub fn parse(s: &[u8]) -> Sheet
     requires { ⌜ length (now s) ≡ sheetLength ⌝ }
     ensures { λ r. ⌜ r ≡ parsed (sheetOf (now (s .entry))) ⌝ }
 {
-    let maintain = record::terms_at(s, MAINTAIN);
-    let renovate = record::terms_at(s, RENOVATE);
-    let replace = record::terms_at(s, REPLACE);
+    let maintain = terms_of(s, 0);
+    let renovate = terms_of(s, 1);
+    let replace = terms_of(s, 2);
     Sheet {
-        horizon: fields::u16_at(s, 5),
-        discount: 1_000_000 + fields::u32_at(s, 7),
+        horizon: horizon_of(s),
+        discount: discount_of(s),
         options: [maintain, renovate, replace],
     }
 }

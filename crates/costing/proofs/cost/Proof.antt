@@ -1,19 +1,16 @@
 -- `cost` is `costed`: refused by the check, or not offered, or the cost of the arc. Assumes nothing.
 use Prim.Native.Nat.{ℕ}
-use mathlib.Core.Path.{_≡_, sym, subst, ap, _∙_}
+use mathlib.Core.Path.{_≡_, sym, ap, _∙_}
 use mathlib.Core.Bool.{true}
 use native.Mathlib.Omega.{arith}
 use borrow.Author.Needs.{needs}
 use borrow.Author.Tests.{not-true, not-false}
 use Rattle.sheet.specs.Sheet.{sheetOf}
-use Rattle.sheet.proofs.ParsedLaws.{horizon-read}
 use Rattle.checking.specs.Answer.{accepted, refused}
 use Rattle.checking.specs.Refusals.{checked}
 use Rattle.checking.specs.Passes.{Passes}
-use Rattle.checking.specs.Fit.{Fit}
 use Rattle.checking.specs.declared.Answer.{Answer}
-use Rattle.checking.proofs.FitLaws.{fit}
-use Rattle.costing.specs.Offered.{offered, Offered}
+use Rattle.costing.specs.Offered.{offered}
 use Rattle.costing.proofs.OfferedLaws.{offered-iff}
 use Rattle.costing.proofs.CostLaws.{cost-refused, cost-unoffered, cost-offered, met}
 use Rattle.costing.proofs.cost.Statement.{statement}
@@ -35,21 +32,12 @@ passes c = c .before .before .check .ensures .1 .0 (c .if1 .left)
 -- and then the arc is offered where the code goes on
 found :
     (c : tie.Else2) →
-    let a = c .before .before .before .before .before .before .before .args in
+    let a = c .before .before .before .before .before .before .args in
     offered (sheetOf (a .sheet .now)) (a .option) (a .start) (a .end) ≡ true
-found c = sym (c .before .offered .ensures _ (c .before .before .parse .ensures)) ∙ not-false _ (c .if2 .left)
+found c = sym (c .before .offered-on .ensures) ∙ not-false _ (c .if2 .left)
 
-offers :
-    (c : tie.Else2) →
-    let a = c .before .before .before .before .before .before .before .args in
-    Offered (sheetOf (a .sheet .now)) (a .option) (a .start) (a .end)
-offers c = offered-iff _ _ _ _ .0 (found c)
-
-parse-requires : tie.Need-parse-requires
-parse-requires c κs = passes c .header .long
-
-offered-requires : tie.Need-offered-requires
-offered-requires c κs = search needs
+offered-on-requires : tie.Need-offered-on-requires
+offered-on-requires c κs = passes c .header .long
 
 refused-requires : tie.Need-refused-requires
 refused-requires c κs = search needs
@@ -57,16 +45,11 @@ refused-requires c κs = search needs
 returns-2 : tie.Need-returns-2
 returns-2 c =
     let d = c .before .before in
-    let out = sym (d .offered .ensures _ (d .before .parse .ensures)) ∙ not-true _ (c .before .if2 .taken) in
-    met _ _ _ _ _ (c .refused .ensures ∙ ap (λ (n : ℕ). refused n 3) (omega arith) ∙ cost-unoffered _ _ _ _ (passed (d .before .before)) out)
+    let out = sym (d .offered-on .ensures) ∙ not-true _ (c .before .if2 .taken) in
+    met _ _ _ _ _ (c .refused .ensures ∙ ap (λ (n : ℕ). refused n 3) (omega arith) ∙ cost-unoffered _ _ _ _ (passed (d .before)) out)
 
-arc-cost-requires : tie.Need-arc-cost-requires
-arc-cost-requires c κs =
-    let d = c .before .before in
-    let o = offers c in
-    let horizon = horizon-read _ _ (d .parse .ensures) in
-    let inside = o .inside in
-    (subst Fit (sym (d .parse .ensures)) (fit _ (passes (d .before))), o .known, o .forward, omega arith)
+arc-on-requires : tie.Need-arc-on-requires
+arc-on-requires c κs = (passes (c .before .before), offered-iff _ _ _ _ .0 (found c))
 
 accepted-requires : tie.Need-accepted-requires
 accepted-requires c κs = search needs
@@ -74,9 +57,8 @@ accepted-requires c κs = search needs
 returns-3 : tie.Need-returns-3
 returns-3 c =
     let d = c .before .before in
-    let e = d .before .before in
-    let units = c .before .arc-cost .ensures .0 _ (e .parse .ensures) in
-    met _ _ _ _ _ (c .accepted .ensures ∙ ap accepted (omega (arith, units)) ∙ cost-offered _ _ _ _ (passed (e .before)) (found d))
+    let units = c .before .arc-on .ensures in
+    met _ _ _ _ _ (c .accepted .ensures ∙ ap accepted (omega (arith, units)) ∙ cost-offered _ _ _ _ (passed (d .before .before)) (found d))
 
 pub cost-spec : {M : Type 1} → statement M
 cost-spec =
@@ -84,10 +66,9 @@ cost-spec =
     (tie.spec
     check-requires
     returns
-    parse-requires
-    offered-requires
+    offered-on-requires
     refused-requires
     returns-2
-    arc-cost-requires
+    arc-on-requires
     accepted-requires
     returns-3)
