@@ -1,0 +1,173 @@
+/* The answers of the library and of the two C planners, on the benchmark's sheets and on generated ones. */
+#include "answers.h"
+
+#include "draw.h"
+
+#include <stdio.h>
+#include <stdlib.h>
+#include <string.h>
+
+enum { DAMAGED_SHEETS = 6000, ARCS = 12, PLANS = 4, DAMAGED_PLANS = 8 };
+
+static const struct {
+    struct shape shape;
+    unsigned sheets;
+} shapes[] = {
+    {{"small", 12, 6, MOST_AMOUNT, -100000, 200000}, 2000},
+    {{"middle", 60, 30, MOST_AMOUNT, -100000, 200000}, 1000},
+    {{"large", MOST_YEARS, MOST_LIFE, MOST_AMOUNT, -100000, 200000}, 400},
+    {{"free", 30, 12, 0, -100000, 200000}, 500},
+    {{"equal totals", 30, 12, 2, 0, 0}, 1500},
+};
+
+/* A copy on the heap that ends where the bytes do. */
+static struct bytes copied(const uint8_t *bytes, size_t length)
+{
+    uint8_t *copy = malloc(length);
+
+    if (copy == NULL && length > 0)
+        stop("no memory");
+    if (length > 0)
+        memcpy(copy, bytes, length);
+    return (struct bytes){copy, length};
+}
+
+static void dispose(struct bytes bytes)
+{
+    free((void *)bytes.at);
+}
+
+static uint64_t compare_price(struct bytes sheet, const uint8_t *plan, size_t length)
+{
+    struct bytes copy = copied(plan, length);
+    struct call call = pricing_of(sheet, copy);
+    uint64_t answer = compare(&call, NULL);
+
+    dispose(copy);
+    return answer;
+}
+
+/* The plan, and the plan damaged in several ways. */
+static void compare_prices(struct random *random, struct bytes sheet, const uint8_t *plan, size_t length)
+{
+    compare_price(sheet, plan, length);
+    for (size_t k = 0; k < DAMAGED_PLANS; k++) {
+        uint8_t damaged[LONGEST_PLAN + 2];
+
+        memcpy(damaged, plan, length);
+        compare_price(sheet, damaged, damage_plan(random, damaged, length));
+    }
+}
+
+/* Plans with buffers long enough, and with shorter ones; the length of the plan, or 0 if there is none. */
+static size_t compare_plans(struct bytes sheet, uint8_t *plan)
+{
+    size_t years = (size_t)get16(sheet.at + HORIZON), length;
+    struct call ample = planning_of(sheet, NIMOVALSA_PLAN_BYTES(years), NIMOVALSA_PLAN_WORDS), call = ample;
+    uint64_t answer = compare(&ample, plan);
+
+    call.words_count = NIMOVALSA_PLAN_WORDS - 1;
+    compare(&call, NULL);
+    call.words_count = 0;
+    compare(&call, NULL);
+    if (nimovalsa_number(answer) != 0)
+        return 0;
+
+    length = NIMOVALSA_PLAN_BYTES(get16(plan + REPLACEMENTS));
+    call = ample;
+    call.plan_length = length;
+    compare(&call, NULL);
+    call.plan_length = length - 1;
+    compare(&call, NULL);
+    if (compare_price(sheet, plan, length) != answer)
+        stop("the plan is not priced at its total");
+    return length;
+}
+
+/* Every call on a sheet that passes the checks. */
+static void compare_sheet(struct random *random, uint8_t *bytes)
+{
+    struct bytes sheet = copied(bytes, NIMOVALSA_SHEET_BYTES);
+    struct call check = checking_of(sheet);
+    uint8_t plan[LONGEST_PLAN];
+    size_t length;
+
+    if (nimovalsa_number(compare(&check, NULL)) != 0)
+        stop("the sheet is refused");
+    length = compare_plans(sheet, plan);
+    if (length > 0)
+        compare_prices(random, sheet, plan, length);
+    for (size_t k = 0; k < PLANS; k++)
+        compare_prices(random, sheet, plan, draw_plan(random, plan, bytes));
+    for (size_t k = 0; k < ARCS; k++) {
+        struct call cost = costing_of(sheet, draw_arc(random, bytes));
+
+        compare(&cost, NULL);
+    }
+    dispose(sheet);
+}
+
+/* Every call on bytes that may be refused. */
+static void compare_damaged(struct random *random, uint8_t *bytes)
+{
+    struct bytes sheet = copied(bytes, damage_sheet(random, bytes));
+    uint8_t plan[LONGEST_PLAN];
+    struct bytes yearly = {plan, put_yearly_plan(plan, within(random, 1, MOST_YEARS))};
+    const struct call calls[] = {
+        checking_of(sheet),
+        costing_of(sheet, (struct arc){REPLACE, 0, (uint64_t)within(random, 0, MOST_LIFE)}),
+        pricing_of(sheet, yearly),
+        planning_of(sheet, LONGEST_PLAN, NIMOVALSA_PLAN_WORDS),
+    };
+
+    for (size_t k = 0; k < COUNT(calls); k++)
+        compare(&calls[k], NULL);
+    dispose(sheet);
+}
+
+static void compare_own_sheets(struct random *random)
+{
+    static const int64_t horizons[] = {75, 150, 225, 300}, lives[] = {15, 30, 60, 90, 120};
+    uint8_t sheet[NIMOVALSA_SHEET_BYTES];
+
+    name_case("the paper's sheet");
+    make_paper_sheet(sheet);
+    compare_sheet(random, sheet);
+    for (size_t h = 0; h < COUNT(horizons); h++)
+        for (size_t l = 0; l < COUNT(lives); l++) {
+            name_case("full sheet, T = %d, lives up to %d", (int)horizons[h], (int)lives[l]);
+            make_full_sheet(sheet, horizons[h], lives[l]);
+            compare_sheet(random, sheet);
+        }
+}
+
+/* Each number of document 01's table was answered, 5 to 9 with each option. */
+static void expect_every_number(void)
+{
+    name_case("all calls");
+    for (unsigned number = 0; number <= 14; number++)
+        for (unsigned option = 0; option <= 3; option++)
+            if ((option < 3) == (5 <= number && number <= 9) && answered[number][option] == 0)
+                stop("none answered number %u option %u", number, option);
+}
+
+void compare_answers(void)
+{
+    struct random random = {20180301};
+    uint8_t sheet[LONGEST_SHEET] = {0};
+
+    compare_own_sheets(&random);
+    for (size_t k = 0; k < COUNT(shapes); k++)
+        for (unsigned count = 0; count < shapes[k].sheets; count++) {
+            name_case("sheet %u of shape %s", count, shapes[k].shape.name);
+            draw_sheet(&random, sheet, &shapes[k].shape);
+            compare_sheet(&random, sheet);
+        }
+    for (unsigned count = 0; count < DAMAGED_SHEETS; count++) {
+        name_case("damaged sheet %u", count);
+        draw_sheet(&random, sheet, &shapes[count % 2].shape);
+        compare_damaged(&random, sheet);
+    }
+    expect_every_number();
+    printf("bench: %lu answers of the library and two C planners compared\n", compared);
+}
