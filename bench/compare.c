@@ -14,7 +14,7 @@
 const struct planner planners[PLANNERS] = {
     [LIBRARY] = {"library", CALLS(nimovalsa_)},
     [PLAIN] = {"plain C", CALLS(plain_)},
-    [GUESSED] = {"guessed C", CALLS(guessed_)},
+    [RECIPROCAL] = {"C, recip.", CALLS(reciprocal_)},
 };
 
 static const char *const kinds[] = {[CHECK] = "check", [COST] = "cost", [PRICE] = "price", [PLAN] = "plan"};

@@ -4,7 +4,7 @@
 
 #include "sheets.h"
 
-enum { LIBRARY, PLAIN, GUESSED, PLANNERS };
+enum { LIBRARY, PLAIN, RECIPROCAL, PLANNERS };
 
 struct planner {
     const char *name;

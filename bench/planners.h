@@ -1,4 +1,4 @@
-/* The two hand-written planners: plain_ divides as C does, guessed_ as the library does. */
+/* The two hand-written planners: plain_ divides as C does, reciprocal_ as the library does. */
 #ifndef PLANNERS_H
 #define PLANNERS_H
 
@@ -16,6 +16,6 @@
                           uint64_t *words, size_t words_count);
 
 PLANNER(plain_)
-PLANNER(guessed_)
+PLANNER(reciprocal_)
 
 #endif

@@ -30,7 +30,7 @@ static void print_head(void)
     print_processor();
     printf("library    target/staticlib/libnimovalsa.a, made by rt staticlib\n"
            "plain C    the same method in C, dividing by /; gcc %s %s\n"
-           "guessed C  the same text, dividing as the library does\n\n"
+           "C, recip.  the same text, dividing as the library does\n\n"
            "Processor time of one call: the median of %d rounds in which the three take turns, each round\n"
            "at least 1 ms of calls. A ratio is the library's time over that of the C planner.\n",
            __VERSION__, FLAGS, ROUNDS);
@@ -64,7 +64,7 @@ static void print_row(const char *name, struct call call)
     printf("%-42s", name);
     for (size_t p = 0; p < PLANNERS; p++)
         print_time(times.of[p], times.of[LIBRARY] >= 1000);
-    printf("%10.2f%11.2f\n", times.of[LIBRARY] / times.of[PLAIN], times.of[LIBRARY] / times.of[GUESSED]);
+    printf("%10.2f%11.2f\n", times.of[LIBRARY] / times.of[PLAIN], times.of[LIBRARY] / times.of[RECIPROCAL]);
     fflush(stdout);
 }
 
@@ -112,7 +112,7 @@ static void print_price_rows(void)
 static void print_calls(void)
 {
     printf("\n%-42s%12s%12s%12s%10s%11s\n", "", planners[LIBRARY].name, planners[PLAIN].name,
-           planners[GUESSED].name, "/ plain", "/ guessed");
+           planners[RECIPROCAL].name, "/ plain", "/ recip.");
     print_plan_rows();
     print_cost_rows();
     print_price_rows();
@@ -158,7 +158,7 @@ static void print_growth(void)
     printf("\nGrowth of plan with the arcs that a sheet offers, on sheets as in (b)\n\n"
            "%4s%9s%9s%12s%36s%16s\n%4s%9s%9s%12s%12s%12s%12s%16s\n",
            "", "", "", "", "ns an arc", "ns an arc more", "T", "longest", "arcs", planners[LIBRARY].name,
-           planners[LIBRARY].name, planners[PLAIN].name, planners[GUESSED].name, planners[LIBRARY].name);
+           planners[LIBRARY].name, planners[PLAIN].name, planners[RECIPROCAL].name, planners[LIBRARY].name);
     for (size_t k = 0; k < COUNT(horizons); k++)
         growth = print_growth_row(horizons[k], MOST_LIFE, growth);
     putchar('\n');
