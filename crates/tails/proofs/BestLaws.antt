@@ -1,5 +1,5 @@
 -- The running choice on numbers: one end weighed in each of its cases (`weighed-none`, `weighed-take`, `weighed-keep`), one end more
--- (`best-next`), ends that are not offered (`best-past`), and what it shows of the choice of entries (`best-shown`). Assumes nothing.
+-- (`best-next`), ends that are not offered (`best-past`) or not better (`best-stays`), and what it shows of the choice of entries (`best-shown`). Assumes nothing.
 use Prim.Native.Nat.{ℕ, zero, suc, _+_, _≤_, _<_}
 use mathlib.Core.Path.{_≡_, refl}
 use mathlib.Core.Bool.{Bool, true, false, cond, Bool-discrete, not-eq-not}
@@ -9,7 +9,8 @@ use native.Mathlib.Omega.{arith}
 use native.Mathlib.Nat.{add-zero, add-suc}
 use native.Mathlib.Numerals.{add-one}
 use lib.Dec.{leb, eqb}
-use borrow.Author.Tests.{eq-eqb, ne-eqb, le-leb, lt-leb}
+use borrow.Author.Tests.{eqb-true, eqb-false, eq-eqb, ne-eqb, le-leb, lt-leb}
+use Rattle.checking.proofs.TestLaws.{by-test}
 use Rattle.choice.specs.Running.{Entry, noTotal, weigh, over}
 use Rattle.tails.specs.Best.{shown, weighed, bestOver}
 use Rattle.tails.specs.declared.Best.{Best}
@@ -27,6 +28,15 @@ module _ (best : Best) (cost end behind : ℕ) where
   pub weighed-keep : (behind ≡ noTotal → ⊥) → best .total < cost + behind → best ≡ weighed best cost end behind
   unfolding weighed
   weighed-keep some l = rw (ne-eqb behind noTotal some, lt-leb (cost + behind) (best .total) l)
+
+  weighed-stays : ((behind ≡ noTotal → ⊥) → best .total < cost + behind) → best ≡ weighed best cost end behind
+  weighed-stays dear =
+      by-test (eqb behind noTotal) (λ t. weighed-none (eqb-true behind noTotal t))
+      (λ t. let some = eqb-false behind noTotal t in weighed-keep some (dear some))
+
+cond-same : (b : Bool) {x y : Best} → y ≡ x → y ≡ cond b x y
+cond-same true e = e
+cond-same false e = refl
 
 module _ (offered : ℕ → Bool) (cost behind : ℕ → ℕ) (s : ℕ) (best : Best) where
   pub best-zero : best ≡ bestOver offered cost behind s best 0
@@ -47,6 +57,19 @@ module _ (offered : ℕ → Bool) (cost behind : ℕ → ℕ) (s : ℕ) (best : 
   best-past k zero never = rw (add-zero k)
   best-past k (suc d) never =
       rw (add-suc k d, never (s + (k + d)) (omega arith) (omega arith)) (best-past k d (λ e l m. never e l (omega arith)))
+
+-- d ends more, each of which is dearer or has no total behind it
+module _ (offered : ℕ → Bool) (cost behind : ℕ → ℕ) (s : ℕ) (best so-far : Best) where
+  pub best-stays :
+      (k d : ℕ) → so-far ≡ bestOver offered cost behind s best k
+      → ((e : ℕ) → s + k ≤ e → e < s + (k + d) → (behind e ≡ noTotal → ⊥) → so-far .total < cost e + behind e)
+      → so-far ≡ bestOver offered cost behind s best (k + d)
+  unfolding bestOver
+  best-stays k zero before dear = rw (add-zero k) before
+  best-stays k (suc d) before dear =
+      let e = s + (k + d) in
+      let same = best-stays k d before (λ e l m. dear e l (omega arith)) in
+      rw (add-suc k d, ← same) (cond-same (offered e) (weighed-stays so-far (cost e) e (behind e) (dear e (omega arith) (omega arith))))
 
 shown-cond : (b : Bool) (x y : Entry) → cond b (shown x) (shown y) ≡ shown (cond b x y)
 shown-cond true x y = refl

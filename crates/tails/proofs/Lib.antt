@@ -5,6 +5,7 @@
 --     BestLaws: the running choice on numbers, against that of entries
 --     EndLaws: the ends of an option that is kept, on its terms
 --     CostLaws: what the arcs of an option cost, by their lengths
+--     NextLaws: ends that are not better are passed over
 --     SheetEndLaws: the same on a sheet; the choice from a year is the table's
 pub mod CaseLaws
 pub mod TailLaws
@@ -12,4 +13,5 @@ pub mod WordLaws
 pub mod BestLaws
 pub mod EndLaws
 pub mod CostLaws
+pub mod NextLaws
 pub mod SheetEndLaws

@@ -58,6 +58,20 @@ wordOf words y = getD words y 0
 abbrev pub WordsFit : (T y : ℕ) → List ℕ → Type 0
 WordsFit T y words = (e : ℕ) → y < e → e ≤ T → (wordOf words e ≡ noTotal → ⊥) → wordOf words e ≤ (T - e) * yearly
 
+-- the arc of n + 1 years with the total behind its end: above a total, or not
+abbrev pub Dearer : Kept → (words : ℕ → ℕ) (total n : ℕ) → Type 0
+Dearer a words total n = let e = a .from + (n + 1) in (words e ≡ noTotal → ⊥) → total < keptCost a e + words e
+
+abbrev pub AtMost : Kept → (words : ℕ → ℕ) (total n : ℕ) → Type 0
+AtMost a words total n = let e = a .from + (n + 1) in (words e ≡ noTotal → ⊥) × (keptCost a e + words e ≤ total)
+
+-- the first n from one place up to another that is not above a total; the other place if there is none
+pub record NextEnd (a : Kept) (words : ℕ → ℕ) (first until total r : ℕ) : Type 0 where
+  pub from : first ≤ r
+  pub to : r ≤ until
+  pub passed : (n : ℕ) → first ≤ n → n < r → Dearer a words total n
+  pub found : r < until → AtMost a words total r
+
 -- the two words of a year, when a choice is written to them
 abbrev pub withBest : (y : ℕ) → Best → List ℕ → List ℕ
 withBest y best words = set (set words y (best .total)) (301 + y) (best .end)

@@ -7,7 +7,7 @@ ghost use lib.ListN.{length};
 ghost use Rattle.costing.specs.Fit.{KeptFits, Divides};
 ghost use Rattle.choice.specs.Running.{noTotal};
 ghost use Rattle.streams.specs.Streams.{Streams};
-ghost use Rattle.tails.specs.Best.{weighed, bestOver, mayEnd, keptCost, wordOf, WordsFit, CostsTo};
+ghost use Rattle.tails.specs.Best.{weighed, bestOver, mayEnd, keptCost, wordOf, WordsFit, CostsTo, NextEnd};
 use crate::Best;
 use costing::Kept;
 use costing::Units;
@@ -20,6 +20,13 @@ pub fn least(a: u64, b: u64) -> u64
     ensures { λ r. ⌜ r ≡ min a b ⌝ }
 {
     if a < b { a } else { b }
+}
+
+// One less, and 0 of 0.
+pub fn before(a: u64) -> u64
+    ensures { λ r. ⌜ r ≡ a - 1 ⌝ }
+{
+    if a == 0 { 0 } else { a - 1 }
 }
 
 // The better of the choice so far and an arc to year end, if that is offered, with a total behind it: of equal totals the later end.
@@ -78,7 +85,36 @@ pub fn best_end(
     chosen
 }
 
-// The same, by what the arcs cost.
+// The first n from one place up to another for which the arc of n + 1 years, with the total behind its end, is at most a total; the other
+// place if there is none.
+fn next_end(
+    words: &[u64],
+    costs: &[u64],
+    kept: Kept,
+    horizon: u64,
+    first: u64,
+    until: u64,
+    total: u64,
+) -> u64
+    requires { ⌜ KeptFits kept × CostsTo kept horizon (now costs) × (120 ≤ length (now costs)) ⌝ }
+    requires { ⌜ (until ≤ kept .terms .longest) × (kept .from + until ≤ horizon) × (horizon ≤ 300) × (first ≤ until) ⌝ }
+    requires { ⌜ (horizon < length (now words)) × WordsFit horizon (kept .from) (now words) ⌝ }
+    ensures { λ r. ⌜ NextEnd kept (wordOf (now (words .entry))) first until total r ⌝ }
+{
+    let mut n = first;
+    while n < until {
+        let behind = words[(kept.from + n + 1) as usize];
+        if behind != NONE {
+            if costs[n as usize] + behind <= total {
+                return n;
+            }
+        }
+        n += 1;
+    }
+    n
+}
+
+// The same, by what the arcs cost. Ends that are not better are passed over.
 pub fn best_of(words: &[u64], costs: &[u64], kept: Kept, horizon: u64, best: Best) -> Best
     requires { ⌜ KeptFits kept × CostsTo kept horizon (now costs) × (120 ≤ length (now costs)) ⌝ }
     requires { ⌜ (kept .from ≤ horizon) × (horizon ≤ 300) ⌝ }
@@ -87,13 +123,17 @@ pub fn best_of(words: &[u64], costs: &[u64], kept: Kept, horizon: u64, best: Bes
 {
     let terms = kept.terms;
     let years = least(terms.longest, horizon - kept.from);
+    let first = least(before(terms.shortest), years);
     let mut chosen = best;
-    let mut n: u64 = 0;
+    let mut n = next_end(words, costs, kept, horizon, first, years, chosen.total);
     while n < years {
-        let cost = Units(costs[n as usize]);
-        n += 1;
-        let end = kept.from + n;
-        chosen = weigh(terms.shortest <= n, chosen, cost, end, words[end as usize]);
+        let end = kept.from + n + 1;
+        let total = costs[n as usize] + words[end as usize];
+        chosen = Best {
+            total: total,
+            end: end,
+        };
+        n = next_end(words, costs, kept, horizon, n + 1, years, total);
     }
     chosen
 }

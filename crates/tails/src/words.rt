@@ -19,13 +19,6 @@ use costing::Kept;
 use division::Divisor;
 use sheet::Sheet;
 
-// The year before, and 0 before year 0.
-fn before(year: u64) -> u64
-    ensures { λ r. ⌜ r ≡ year - 1 ⌝ }
-{
-    if year == 0 { 0 } else { year - 1 }
-}
-
 // Writes the two words of a year by what the replacements from it cost.
 fn word(words: &mut [u64], costs: &[u64], kept: Kept, horizon: u64)
     requires { ⌜ KeptFits kept × CostsTo kept horizon (now costs) × (120 ≤ length (now costs)) ⌝ }
@@ -61,7 +54,7 @@ fn two_years(
     let horizon = sheet.horizon;
     let terms = sheet.options[REPLACE];
     let start = reached - 1;
-    let from = before(start);
+    let from = weighing::before(start);
     let kept = Kept {
         terms: terms,
         discount: sheet.discount,

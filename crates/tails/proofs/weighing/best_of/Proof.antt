@@ -1,44 +1,118 @@
--- The choice of an end by what the arcs cost: after n years the ends up to n years after the start are weighed. Assumes nothing.
-use Prim.Native.Nat.{ℕ, _+_, _-_, _≤_, _<_}
-use mathlib.Core.Path.{_≡_, ap, _∙_}
+-- The choice of an end by what the arcs cost: the ends before n are weighed, and n is the next one that is not dearer, if there is one.
+-- Assumes nothing.
+use Prim.Native.Nat.{ℕ, _+_, _-_, _≤_, _<_, min}
+use mathlib.Core.Path.{_≡_, ap, sym, _∙_}
 use native.Mathlib.Omega.{arith}
 use lib.ListN.{getD}
 use denote.Ref.{now}
-use Rattle.tails.specs.Best.{bestOver, mayEnd, keptCost, wordOf}
-use Rattle.tails.proofs.BestLaws.{best-zero, best-next}
-use Rattle.tails.proofs.EndLaws.{end-test, end-room, ends-all}
-use Rattle.tails.proofs.CostLaws.{end-cost}
+use Rattle.tails.specs.Best.{bestOver, mayEnd, keptCost, wordOf, AtMost, NextEnd}
+use Rattle.tails.specs.declared.Best.{Best}
+use Rattle.tails.proofs.EndLaws.{end-room, ends-all}
+use Rattle.tails.proofs.NextLaws.{sum-read, next-first, next-stays, next-taken}
 use Rattle.tails.proofs.weighing.best_of.Statement.{statement}
 use Rattle.tails.proofs.weighing.best_of.Tie as tie
 
 abbrev Inv-loop : tie.InvT-loop
-Inv-loop words costs kept horizon terms years chosen₀ n₀ chosen n =
-    (n ≤ years) × (chosen ≡ bestOver (mayEnd kept) (keptCost kept) (wordOf words) (kept .from + 1) chosen₀ n)
+Inv-loop words costs kept horizon years first chosen₀ n₀ chosen n =
+    (n ≤ years)
+    × (n < years → kept .terms .shortest ≤ n + 1)
+    × (chosen ≡ bestOver (mayEnd kept) (keptCost kept) (wordOf words) (kept .from + 1) chosen₀ n)
+    × (n < years → AtMost kept (wordOf words) (chosen .total) n)
 
 abbrev μ-loop : tie.MeasureT-loop
-μ-loop words costs kept horizon terms years chosen₀ n₀ chosen n = years - n
+μ-loop words costs kept horizon years first chosen₀ n₀ chosen n = years - n
 
-abbrev start : tie.At-loop Inv-loop μ-loop → tie.Start Inv-loop μ-loop
-start c = c .before .before .before .before .before .before
+abbrev start : tie.After-least2 Inv-loop μ-loop → tie.Start Inv-loop μ-loop
+start b = b .before .before .before .before .before .before .before
+
+-- the number of years is the longest life or what is left to the horizon
+top :
+    (b : tie.After-least2 Inv-loop μ-loop)
+    → let s = start b in b .before .before .least .result ≡ min (s .args .kept .terms .longest) (s .args .horizon - s .args .kept .from)
+top b = b .before .before .least .ensures
+
+begun : (b : tie.After-least2 Inv-loop μ-loop) → b .least2 .result ≡ min (start b .args .kept .terms .shortest - 1) (b .before .before .least .result)
+begun b = b .least2 .ensures ∙ ap (λ (n : ℕ). min n (b .before .before .least .result)) (b .before .before2 .ensures)
 
 short : (s : tie.Start Inv-loop μ-loop) → s .args .horizon ≤ 300
 short s = s .pre .1 .0 .1
 
+abbrev entered : tie.In-loop Inv-loop μ-loop → tie.After-least2 Inv-loop μ-loop
+entered i = i .before .before .before
+
 -- while the loop goes on, one year more is within the longest life and the horizon
-lives : (c : tie.In-loop Inv-loop μ-loop) → c .before .loop .n < start (c .before) .args .kept .terms .longest
-lives c = omega (arith, c .before .before .least .ensures, c .loop-test .taken)
+lives : (i : tie.In-loop Inv-loop μ-loop) → i .before .loop .n < start (entered i) .args .kept .terms .longest
+lives i = omega (arith, top (entered i), i .loop-test .taken)
 
-inside : (c : tie.In-loop Inv-loop μ-loop) → start (c .before) .args .kept .from + (c .before .loop .n + 1) ≤ start (c .before) .args .horizon
-inside c = omega (arith, c .before .before .least .ensures, c .loop-test .taken)
+inside : (i : tie.In-loop Inv-loop μ-loop) → start (entered i) .args .kept .from + (i .before .loop .n + 1) ≤ start (entered i) .args .horizon
+inside i = omega (arith, top (entered i), i .loop-test .taken)
 
-few : (c : tie.In-loop Inv-loop μ-loop) → c .before .loop .n < 120
-few c = omega (arith, lives c, start (c .before) .pre .0 .0 .terms .longest)
+few : (i : tie.In-loop Inv-loop μ-loop) → i .before .loop .n < 120
+few i = omega (arith, lives i, start (entered i) .pre .0 .0 .terms .longest)
 
--- what the arc to the next end costs
-costs : (c : tie.In-loop Inv-loop μ-loop) → let s = start (c .before) in getD (now (s .args .costs)) (c .before .loop .n) 0 ≡ keptCost (s .args .kept) (s .args .kept .from + (c .before .loop .n + 1))
-costs c =
-    let s = start (c .before) in
-    end-cost (s .args .kept) (c .before .loop .n) (s .pre .0 .1 (c .before .loop .n) (lives c) (omega (arith, inside c)))
+-- the sum is that of the arc and the word
+both :
+    (i : tie.In-loop Inv-loop μ-loop)
+    → let s = start (entered i) in
+    let n = i .before .loop .n in
+    getD (now (s .args .costs)) n 0 + getD (now (s .args .words)) (s .args .kept .from + n + 1) 0
+    ≡ keptCost (s .args .kept) (s .args .kept .from + (n + 1)) + wordOf (now (s .args .words)) (s .args .kept .from + (n + 1))
+both i =
+    let s = start (entered i) in
+    sum-read (s .args .kept) (now (s .args .words)) (now (s .args .costs)) (s .args .horizon) (i .before .loop .n) (s .pre .0 .1) (lives i)
+    (omega (arith, inside i))
+
+-- the end that was found is taken
+taken :
+    (i : tie.In-loop Inv-loop μ-loop)
+    → let s = start (entered i) in
+    let n = i .before .loop .n in
+    record {
+      total = getD (now (s .args .costs)) n 0 + getD (now (s .args .words)) (s .args .kept .from + n + 1) 0;
+      end = s .args .kept .from + n + 1;
+    }
+    ≡ bestOver (mayEnd (s .args .kept)) (keptCost (s .args .kept)) (wordOf (now (s .args .words))) (s .args .kept .from + 1) (s .args .best) (n + 1)
+taken i =
+    let s = start (entered i) in
+    let loop = i .before .loop in
+    let end : s .args .kept .from + loop .n + 1 ≡ s .args .kept .from + (loop .n + 1) = omega arith in
+    (λ k. record { total = both i k; end = end k })
+    ∙ next-taken (s .args .kept) (wordOf (now (s .args .words))) (s .args .best) (loop .chosen) (loop .n) (loop .inv .2)
+    (loop .inv .3 (i .loop-test .taken)) (loop .inv .1 (i .loop-test .taken)) (lives i)
+
+loop-again : tie.Need-loop-again Inv-loop μ-loop
+loop-again c =
+    let i = c .before .before .before .before in
+    let s = start (entered i) in
+    let n = i .before .loop .n in
+    let old = i .before .loop .inv .1 (i .loop-test .taken) in
+    let next = c .next-end2 .ensures in (
+      next .to,
+      λ l. omega (arith, old, next .from),
+      next-stays (s .args .kept) (wordOf (now (s .args .words))) (s .args .best) _ (n + 1) _ _ (taken i) next,
+      next .found,
+    )
+
+returns : tie.Need-returns Inv-loop μ-loop
+returns c =
+    let a = c .before in
+    let b = a .before .before in
+    let s = start b in
+    a .loop .inv .2
+    ∙ ends-all (s .args .kept) (wordOf (now (s .args .words))) (s .args .best) (s .args .horizon) (a .loop .n)
+    (omega (arith, top b, c .loop-test .left, a .loop .inv .0)) (s .pre .1 .0 .0)
+
+loop-holds : tie.Need-loop-holds Inv-loop μ-loop
+loop-holds c =
+    let b = c .before in
+    let s = start b in
+    let next = c .next-end .ensures in (
+      next .to,
+      λ l. omega (arith, begun b, next .from),
+      next-stays (s .args .kept) (wordOf (now (s .args .words))) (s .args .best) (s .args .best) (b .least2 .result) _ _
+          (next-first (s .args .kept) (wordOf (now (s .args .words))) (s .args .best) (b .least2 .result) (omega (arith, begun b))) next,
+      next .found,
+    )
 
 sub-least : tie.Need-sub-least Inv-loop μ-loop
 sub-least c = c .before .before .before .before .pre .1 .0 .0
@@ -46,61 +120,59 @@ sub-least c = c .before .before .before .before .pre .1 .0 .0
 least-requires : tie.Need-least-requires Inv-loop μ-loop
 least-requires c κs = tt
 
-loop-holds : tie.Need-loop-holds Inv-loop μ-loop
-loop-holds c = (omega arith, best-zero _ _ _ _ _)
+before-requires : tie.Need-before-requires Inv-loop μ-loop
+before-requires c κs = tt
 
-mul-weigh : tie.Need-mul-weigh Inv-loop μ-loop
-mul-weigh c = omega (arith, few c)
+least-requires-2 : tie.Need-least-requires-2 Inv-loop μ-loop
+least-requires-2 c κs = tt
 
-shared-slice-read-weigh : tie.Need-shared-slice-read-weigh Inv-loop μ-loop
-shared-slice-read-weigh c = omega (arith, few (c .before), start (c .before .before) .pre .0 .2)
-
-add-n : tie.Need-add-n Inv-loop μ-loop
-add-n c = omega (arith, few (c .before))
+next-end-requires : tie.Need-next-end-requires Inv-loop μ-loop
+next-end-requires c κs =
+    let s = start c in
+    (s .pre .0, ((omega (arith, top c), omega (arith, top c, s .pre .1 .0), short s, omega (arith, begun c)), s .pre .1 .1))
 
 add-end : tie.Need-add-end Inv-loop μ-loop
-add-end c = omega (arith, inside (c .before .before), short (start (c .before .before .before)))
+add-end c = omega (arith, inside (c .before), short (start (entered (c .before))))
 
-mul-weigh-2 : tie.Need-mul-weigh-2 Inv-loop μ-loop
-mul-weigh-2 c = omega (arith, inside (c .before .before .before), short (start (c .before .before .before .before)))
+add-end-2 : tie.Need-add-end-2 Inv-loop μ-loop
+add-end-2 c = omega (arith, inside (c .before), short (start (entered (c .before))))
 
-shared-slice-read-weigh-2 : tie.Need-shared-slice-read-weigh-2 Inv-loop μ-loop
-shared-slice-read-weigh-2 c =
-    omega (arith, inside (c .before .before .before .before), start (c .before .before .before .before .before) .pre .1 .1 .0)
+mul-total : tie.Need-mul-total Inv-loop μ-loop
+mul-total c = omega (arith, few (c .before))
 
-weigh-requires : tie.Need-weigh-requires Inv-loop μ-loop
-weigh-requires c κs some =
-    let d = c .before .before .before .before in
-    let s = start (d .before) in
-    let kept = s .args .kept in
-    let end = kept .from + (d .before .loop .n + 1) in
-    let room =
-    end-room kept (s .pre .0 .0) (s .args .horizon) end (short s) (omega arith) (inside d)
-    (s .pre .1 .1 .1 end (omega arith) (inside d) some) in
-    omega (arith, costs d, room, short s)
+shared-slice-read-total : tie.Need-shared-slice-read-total Inv-loop μ-loop
+shared-slice-read-total c = omega (arith, few (c .before .before), start (entered (c .before .before)) .pre .0 .2)
+
+mul-total-2 : tie.Need-mul-total-2 Inv-loop μ-loop
+mul-total-2 c = omega (arith, inside (c .before .before), short (start (entered (c .before .before))))
+
+shared-slice-read-total-2 : tie.Need-shared-slice-read-total-2 Inv-loop μ-loop
+shared-slice-read-total-2 c =
+    let i = c .before .before .before in
+    omega (arith, inside i, start (entered i) .pre .1 .1 .0)
+
+add-total : tie.Need-add-total Inv-loop μ-loop
+add-total c =
+    let i = c .before .before .before in
+    let s = start (entered i) in
+    let end = s .args .kept .from + (i .before .loop .n + 1) in
+    let most =
+    end-room (s .args .kept) (s .pre .0 .0) (s .args .horizon) end (short s) (omega arith) (inside i)
+    (s .pre .1 .1 .1 end (omega arith) (inside i) (i .before .loop .inv .3 (i .loop-test .taken) .0)) in
+    omega (arith, both i, most, short s)
+
+add-next-end : tie.Need-add-next-end Inv-loop μ-loop
+add-next-end c = omega (arith, few (c .before .before .before))
+
+next-end-requires-2 : tie.Need-next-end-requires-2 Inv-loop μ-loop
+next-end-requires-2 c κs =
+    let i = c .before .before .before in
+    let b = entered i in
+    let s = start b in
+    (s .pre .0, ((omega (arith, top b), omega (arith, top b, s .pre .1 .0), short s, omega (arith, i .loop-test .taken)), s .pre .1 .1))
 
 loop-less : tie.Need-loop-less Inv-loop μ-loop
-loop-less c = omega arith
-
-loop-again : tie.Need-loop-again Inv-loop μ-loop
-loop-again c =
-    let d = c .before .before .before .before .before in
-    let s = start (d .before) in
-    let kept = s .args .kept in
-    let n = d .before .loop .n in
-    let end = kept .from + (n + 1) in (
-      omega arith,
-      c .weigh .ensures
-          ∙ best-next (mayEnd kept) (keptCost kept) (wordOf (now (s .args .words))) (kept .from + 1) (s .args .best) n end (d .before .loop .inv .1)
-          (omega arith) (end-test kept n (omega arith) (lives d)) (costs d) (ap (wordOf (now (s .args .words))) (omega arith)),
-    )
-
-returns : tie.Need-returns Inv-loop μ-loop
-returns c =
-    let s = start (c .before) in
-    c .before .loop .inv .1
-    ∙ ends-all (s .args .kept) (wordOf (now (s .args .words))) (s .args .best) (s .args .horizon) (c .before .loop .n)
-    (omega (arith, c .before .before .least .ensures, c .loop-test .left, c .before .loop .inv .0)) (s .pre .1 .0 .0)
+loop-less c = omega (arith, c .next-end2 .ensures .from, c .next-end2 .ensures .to)
 
 pub best-of-spec : {M : Type 1} → statement M
 best-of-spec =
@@ -110,14 +182,19 @@ best-of-spec =
     μ-loop
     sub-least
     least-requires
+    before-requires
+    least-requires-2
+    next-end-requires
     loop-holds
-    mul-weigh
-    shared-slice-read-weigh
-    add-n
     add-end
-    mul-weigh-2
-    shared-slice-read-weigh-2
-    weigh-requires
+    add-end-2
+    mul-total
+    shared-slice-read-total
+    mul-total-2
+    shared-slice-read-total-2
+    add-total
+    add-next-end
+    next-end-requires-2
     loop-less
     loop-again
     returns)
