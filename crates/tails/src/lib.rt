@@ -1,5 +1,5 @@
 // The cheapest replacements from every year to the horizon: the words that planning lends.
-// Nothing here is a public call: `tail_words`, `lend`, `two_starts`, `weigh`, `best_end` and `best_of` serve the crates above, which meet what they require.
+// Nothing here is a public call: `tail_words`, `lend`, `two_starts`, `least`, `before`, `weigh`, `best_end` and `best_of` serve the crates above, which meet what they require.
 
 ghost use mathlib.Core.Path.{_≡_};
 ghost use Prim.Native.Nat.{_≤_};

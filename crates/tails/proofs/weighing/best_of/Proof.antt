@@ -1,7 +1,7 @@
 -- The choice of an end by what the arcs cost: the ends before n are weighed, and n is the next one that is not dearer, if there is one.
 -- Assumes nothing.
 use Prim.Native.Nat.{ℕ, _+_, _-_, _≤_, _<_, min}
-use mathlib.Core.Path.{_≡_, ap, sym, _∙_}
+use mathlib.Core.Path.{_≡_, _∙_}
 use native.Mathlib.Omega.{arith}
 use lib.ListN.{getD}
 use denote.Ref.{now}
@@ -29,10 +29,10 @@ start b = b .before .before .before .before .before .before .before
 top :
     (b : tie.After-least2 Inv-loop μ-loop)
     → let s = start b in b .before .before .least .result ≡ min (s .args .kept .terms .longest) (s .args .horizon - s .args .kept .from)
-top b = b .before .before .least .ensures
+top b = omega (arith, b .before .before .least .ensures)
 
 begun : (b : tie.After-least2 Inv-loop μ-loop) → b .least2 .result ≡ min (start b .args .kept .terms .shortest - 1) (b .before .before .least .result)
-begun b = b .least2 .ensures ∙ ap (λ (n : ℕ). min n (b .before .before .least .result)) (b .before .before2 .ensures)
+begun b = omega (arith, b .least2 .ensures, b .before .before2 .ensures)
 
 short : (s : tie.Start Inv-loop μ-loop) → s .args .horizon ≤ 300
 short s = s .pre .1 .0 .1
