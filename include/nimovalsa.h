@@ -101,7 +101,7 @@ static inline unsigned nimovalsa_option(uint64_t answer)
  *     it may be any pointer, also NULL.
  *   - nothing changes those bytes during the call.
  *   - NIMOVALSA_CHECK_STACK bytes of stack are free. The call was measured
- *     to use 1,408 bytes; tests/c measures it again and fails above the figure
+ *     to use 105 bytes; tests/c measures it again and fails above the figure
  *     here. It is not proved.
  */
 #define NIMOVALSA_CHECK_STACK 2048
@@ -134,7 +134,7 @@ uint64_t nimovalsa_check(const uint8_t *sheet, size_t length);
  * written, and nothing is kept between calls.
  *
  * Duties of the caller: those of nimovalsa_check, with NIMOVALSA_COST_STACK
- * bytes of stack. The call was measured to use 2,160; tests/c measures it again
+ * bytes of stack. The call was measured to use 776; tests/c measures it again
  * and fails above the figure here. It is not proved.
  */
 #define NIMOVALSA_COST_STACK 8192
@@ -168,7 +168,7 @@ uint64_t nimovalsa_cost(const uint8_t *sheet, size_t length, uint64_t option,
  *     at any alignment. With length 0 it may be any pointer, also NULL.
  *   - nothing changes those bytes during the call.
  *   - NIMOVALSA_PRICE_STACK bytes of stack are free. The call was measured
- *     to use 2,192 bytes; tests/c measures it again and fails above the figure
+ *     to use 1,664 bytes; tests/c measures it again and fails above the figure
  *     here. It is not proved.
  */
 #define NIMOVALSA_PRICE_STACK 8192
@@ -216,7 +216,7 @@ uint64_t nimovalsa_price(const uint8_t *sheet, size_t sheet_length,
  *   - nothing else reads or changes plan and words during the call, and nothing
  *     changes the sheet.
  *   - NIMOVALSA_PLAN_STACK bytes of stack are free. The call was measured to
- *     use 35,376 bytes; tests/c measures it again and fails above the figure
+ *     use 33,968 bytes; tests/c measures it again and fails above the figure
  *     here. It is not proved.
  */
 #define NIMOVALSA_PLAN_WORDS 602
