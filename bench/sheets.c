@@ -1,27 +1,7 @@
-/* Sheets and plans by field, and the benchmark's own. */
+/* The sheets and plans of the benchmark. */
 #include "sheets.h"
 
 #include <string.h>
-
-void put(uint8_t *at, size_t bytes, int64_t value)
-{
-    uint64_t rest = (uint64_t)value;
-
-    for (size_t k = 0; k < bytes; k++) {
-        at[k] = (uint8_t)(rest % 256);
-        rest /= 256;
-    }
-}
-
-void put16(uint8_t *at, int64_t value)
-{
-    put(at, 2, value);
-}
-
-void put32(uint8_t *at, int64_t value)
-{
-    put(at, 4, value);
-}
 
 int64_t get16(const uint8_t *at)
 {
@@ -31,61 +11,6 @@ int64_t get16(const uint8_t *at)
 int64_t get32(const uint8_t *at)
 {
     return get16(at) + 65536 * get16(at + 2);
-}
-
-uint8_t *record_of(uint8_t *sheet, size_t option)
-{
-    return sheet + RECORDS + RECORD_BYTES * option;
-}
-
-void put_head(uint8_t *sheet, int64_t horizon, int64_t rate)
-{
-    memset(sheet, 0, NIMOVALSA_SHEET_BYTES);
-    memcpy(sheet + MARK, "RCS", 3);
-    put16(sheet + VERSION, 1);
-    put16(sheet + HORIZON, horizon);
-    put32(sheet + RATE, rate);
-}
-
-void put_lives(uint8_t *record, int64_t shortest, int64_t longest)
-{
-    put16(record + SHORTEST, shortest);
-    put16(record + LONGEST, longest);
-}
-
-void put_overhaul(uint8_t *record, size_t entry, int64_t age, int64_t amount)
-{
-    put16(record + OVERHAUL(entry) + AGE, age);
-    put32(record + OVERHAUL(entry) + AMOUNT, amount);
-}
-
-void make_paper_sheet(uint8_t *sheet)
-{
-    static const struct {
-        int64_t longest, investment, maintenance, ageing, electricity, overhauls, years_between;
-    } figures[OPTIONS] = {
-        [MAINTAIN] = {15, 150000, 70000, 15000, 15000, 2, 5},
-        [RENOVATE] = {30, 1125000, 35000, 10000, 15000, 2, 10},
-        [REPLACE] = {60, 2500000, 10000, 5000, 10000, 3, 15},
-    };
-
-    put_head(sheet, 300, 40000);
-    for (size_t option = 0; option < OPTIONS; option++) {
-        uint8_t *record = record_of(sheet, option);
-
-        put_lives(record, 1, figures[option].longest);
-        put32(record + INVESTMENT, figures[option].investment);
-        put32(record + INVESTMENT_INFLATION, 10300);
-        put32(record + MAINTENANCE, figures[option].maintenance);
-        put32(record + MAINTENANCE_INFLATION, 8500);
-        put32(record + MAINTENANCE_AGEING, figures[option].ageing);
-        put32(record + ELECTRICITY, figures[option].electricity);
-        put32(record + ELECTRICITY_INFLATION, 2000);
-        put32(record + OVERHAUL_INFLATION, 10300);
-        put(record + OVERHAUL_COUNT, 1, figures[option].overhauls);
-        for (int64_t entry = 0; entry < figures[option].overhauls; entry++)
-            put_overhaul(record, (size_t)entry, figures[option].years_between * (entry + 1), 150000);
-    }
 }
 
 void make_full_sheet(uint8_t *sheet, int64_t horizon, int64_t longest)

@@ -1,51 +1,19 @@
-/* Sheets and plans by field, and the benchmark's own. */
+/* The sheets and plans of the benchmark; fields.h is that of tests/c. */
 #ifndef SHEETS_H
 #define SHEETS_H
 
-#include <nimovalsa.h>
-
-#include <stddef.h>
-#include <stdint.h>
+#include "fields.h"
 
 enum {
     MAINTAIN,
     RENOVATE,
     REPLACE,
-    OPTIONS,
 
     MOST_YEARS = 300,
     MOST_LIFE = 120,
     MOST_AMOUNT = 1000000000,
     MOST_OVERHAULS = 8,
     MILLION = 1000000,
-
-    /* the sheet's head */
-    MARK = 0,
-    VERSION = 3,
-    HORIZON = 5,
-    RATE = 7,
-    RECORDS = 11,
-
-    /* an option record, from its own beginning */
-    SHORTEST = 0,
-    LONGEST = 2,
-    INVESTMENT = 4,
-    INVESTMENT_INFLATION = 8,
-    MAINTENANCE = 12,
-    MAINTENANCE_INFLATION = 16,
-    MAINTENANCE_AGEING = 20,
-    ELECTRICITY = 24,
-    ELECTRICITY_INFLATION = 28,
-    ELECTRICITY_AGEING = 32,
-    OVERHAUL_INFLATION = 36,
-    OVERHAUL_COUNT = 40,
-    OVERHAULS = 41,
-    RECORD_BYTES = 89,
-
-    /* an overhaul, from its own beginning */
-    AGE = 0,
-    AMOUNT = 2,
-    OVERHAUL_BYTES = 6,
 
     /* a plan; its mark and version are where the sheet has them */
     PLAN_TOTAL = 5,
@@ -56,31 +24,10 @@ enum {
     LONGEST_PLAN = ENDS + 2 * MOST_YEARS
 };
 
-#define OVERHAUL(entry) (OVERHAULS + OVERHAUL_BYTES * (entry))
 #define END(entry) (ENDS + 2 * (entry))
-#define COUNT(table) (sizeof(table) / sizeof *(table))
 
-struct bytes {
-    const uint8_t *at;
-    size_t length;
-};
-
-/* The low bytes of a value, the lowest first. */
-void put(uint8_t *at, size_t bytes, int64_t value);
-void put16(uint8_t *at, int64_t value);
-void put32(uint8_t *at, int64_t value);
 int64_t get16(const uint8_t *at);
 int64_t get32(const uint8_t *at);
-
-uint8_t *record_of(uint8_t *sheet, size_t option);
-
-/* All but the head becomes zero. */
-void put_head(uint8_t *sheet, int64_t horizon, int64_t rate);
-void put_lives(uint8_t *record, int64_t shortest, int64_t longest);
-void put_overhaul(uint8_t *record, size_t entry, int64_t age, int64_t amount);
-
-/* The paper's case study: T 300, lives up to 15, 30 and 60. */
-void make_paper_sheet(uint8_t *sheet);
 
 /* Every option alike: lives from 1, all amounts 10^9, eight overhauls. */
 void make_full_sheet(uint8_t *sheet, int64_t horizon, int64_t longest);

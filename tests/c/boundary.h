@@ -1,18 +1,14 @@
 /*
  * What the files of this folder share: calls of the library between
  * unreadable pages and on a measured stack (harness.c), sheets by field
- * (sheets.c), and the tests of each call.
+ * (fields.c, sheets.c), and the tests of each call.
  */
 #ifndef BOUNDARY_H
 #define BOUNDARY_H
 
-#include <nimovalsa.h>
-
-#include <stddef.h>
-#include <stdint.h>
+#include "fields.h"
 
 enum {
-    OPTIONS = 3,
     NO_OPTION = 3,
 
     /* answers without a total */
@@ -27,13 +23,6 @@ enum {
     LONGEST_SHEET = 4096,
     MOST_ENDS = 65535,
     LONGEST_PLAN = 19 + 2 * MOST_ENDS + 3
-};
-
-#define COUNT(table) (sizeof(table) / sizeof *(table))
-
-struct bytes {
-    const uint8_t *at;
-    size_t length;
 };
 
 /* ---- harness.c: failure ---- */
@@ -99,56 +88,12 @@ void test_stack(const struct subject *subject);
 
 /* ---- sheets.c ---- */
 
-enum {
-    /* the sheet's head */
-    MARK = 0,
-    VERSION = 3,
-    HORIZON = 5,
-    RATE = 7,
-    RECORDS = 11,
-
-    /* an option record, from its own beginning */
-    SHORTEST = 0,
-    LONGEST = 2,
-    INVESTMENT = 4,
-    INVESTMENT_INFLATION = 8,
-    MAINTENANCE = 12,
-    MAINTENANCE_INFLATION = 16,
-    MAINTENANCE_AGEING = 20,
-    ELECTRICITY = 24,
-    ELECTRICITY_INFLATION = 28,
-    ELECTRICITY_AGEING = 32,
-    OVERHAUL_INFLATION = 36,
-    OVERHAUL_COUNT = 40,
-    OVERHAULS = 41,
-    RECORD_BYTES = 89,
-
-    /* an overhaul, from its own beginning */
-    AGE = 0,
-    AMOUNT = 2,
-    OVERHAUL_BYTES = 6
-};
-
-#define OVERHAUL(entry) (OVERHAULS + OVERHAUL_BYTES * (entry))
-
-/* The low bytes of a value, the lowest first. */
-void put(uint8_t *at, size_t bytes, int64_t value);
-void put16(uint8_t *at, int64_t value);
-void put32(uint8_t *at, int64_t value);
-
-uint8_t *record_of(uint8_t *sheet, unsigned option);
-
-/* All but the head becomes zero. */
-void put_head(uint8_t *sheet, int64_t horizon, int64_t rate);
-void put_lives(uint8_t *record, int64_t shortest, int64_t longest);
-void put_overhaul(uint8_t *record, unsigned entry, int64_t age, int64_t amount);
-
 typedef void make_sheet(uint8_t *sheet);
 
 make_sheet make_middle_sheet, make_limit_sheet, make_empty_sheet,
     make_case_9_sheet, make_case_10_sheet, make_case_11_sheet,
     make_case_12_sheet, make_six_year_sheet, make_three_year_sheet,
-    make_dear_sheet, make_paper_sheet;
+    make_dear_sheet;
 
 /* ---- lending.c: planning in watched buffers ---- */
 
