@@ -114,7 +114,7 @@ fn next_end(
     n
 }
 
-// The same, by what the arcs cost. Ends that are not better are passed over.
+// The choice that `best_end` makes, by what the arcs cost. Ends that are not better are passed over.
 pub fn best_of(words: &[u64], costs: &[u64], kept: Kept, horizon: u64, best: Best) -> Best
     requires { ⌜ KeptFits kept × CostsTo kept horizon (now costs) × (120 ≤ length (now costs)) ⌝ }
     requires { ⌜ (kept .from ≤ horizon) × (horizon ≤ 300) ⌝ }

@@ -36,7 +36,8 @@ fn word(words: &mut [u64], costs: &[u64], kept: Kept, horizon: u64)
     words[301 + year] = chosen.end;
 }
 
-// Writes the words of the two years before one, of which the words and those behind are written: of year 0 alone before year 1.
+// Writes the words of the two years before a year whose words, and those of later years, are written, and answers the earlier of the two.
+// Before year 1 there is year 0 alone.
 fn two_years(
     words: &mut [u64],
     streams: &[u64],
