@@ -1,5 +1,5 @@
 -- What the code keeps on the way to a chain. Definitions only.
-use Prim.Native.Nat.{ℕ, _+_, _-_, _≤_}
+use Prim.Native.Nat.{ℕ, _≤_}
 use mathlib.Core.Path.{_≡_}
 use mathlib.Core.Bool.{true}
 use mathlib.Core.List.{List}
@@ -13,7 +13,7 @@ use Rattle.chain.specs.Chain.{maintain}
 use Rattle.choice.specs.Running.{Entry, noTotal, noEntry}
 use Rattle.tails.specs.Tail.{tail}
 use Rattle.tails.specs.Words.{firstOf}
-use Rattle.tails.specs.Best.{shown, weighed, bestOver, mayEnd, keptCost, wordOf, WordsFit}
+use Rattle.tails.specs.Best.{shown, weighed, bestTo, wordOf, WordsFit}
 use Rattle.tails.specs.declared.Best.{Best}
 use Rattle.front.specs.Planned.{renovated}
 use Rattle.front.specs.declared.Front.{Front}
@@ -38,8 +38,7 @@ Leads s j = (p : PlanningSheet) → s ≡ parsed p → tail p j .total ≡ noTot
 
 -- the choice of the end of an option that may also have length 0, which costs nothing
 abbrev pub bestKept : Kept → (T : ℕ) → (words : ℕ → ℕ) → Best
-bestKept a T words =
-    bestOver (mayEnd a) (keptCost a) words (a .from + 1) (weighed (shown noEntry) 0 (a .from) (words (a .from))) (T - a .from)
+bestKept a T words = bestTo a T words (weighed (shown noEntry) 0 (a .from) (words (a .from)))
 
 -- no year has a total yet
 abbrev pub NoTotals : List ℕ → Type 0

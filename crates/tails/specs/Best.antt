@@ -38,6 +38,10 @@ mayEnd a e = leb (a .terms .shortest) (e - a .from) && leb (e - a .from) (a .ter
 abbrev pub keptCost : Kept → ℕ → ℕ
 keptCost a e = worth a (paid a (e - a .from))
 
+-- the choice so far after the ends of an option that is kept, up to T
+abbrev pub bestTo : Kept → (T : ℕ) (words : ℕ → ℕ) → Best → Best
+bestTo a T words best = bestOver (mayEnd a) (keptCost a) words (a .from + 1) best (T - a .from)
+
 -- the same option, kept from another year
 abbrev pub keptFrom : Kept → ℕ → Kept
 keptFrom a y = record { terms = a .terms; discount = a .discount; from = y }

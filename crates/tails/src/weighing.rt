@@ -7,7 +7,7 @@ ghost use lib.ListN.{length};
 ghost use Rattle.costing.specs.Fit.{KeptFits, Divides};
 ghost use Rattle.choice.specs.Running.{noTotal};
 ghost use Rattle.streams.specs.Streams.{Streams};
-ghost use Rattle.tails.specs.Best.{weighed, bestOver, mayEnd, keptCost, wordOf, WordsFit, CostsTo, NextEnd};
+ghost use Rattle.tails.specs.Best.{weighed, bestTo, CostsTo, wordOf, WordsFit, NextEnd};
 use crate::Best;
 use costing::Kept;
 use costing::Units;
@@ -64,7 +64,7 @@ pub fn best_end(
     requires { ⌜ KeptFits kept × Divides discount (kept .discount) × (now ages ≡ kept .terms .overhauls .ages) ⌝ }
     requires { ⌜ Streams (kept .discount) (kept .terms) horizon (now streams) × (kept .from ≤ horizon) × (horizon ≤ 300) ⌝ }
     requires { ⌜ (horizon < length (now words)) × WordsFit horizon (kept .from) (now words) ⌝ }
-    ensures { λ r. ⌜ r ≡ bestOver (mayEnd kept) (keptCost kept) (wordOf (now (words .entry))) (kept .from + 1) best (horizon - kept .from) ⌝ }
+    ensures { λ r. ⌜ r ≡ bestTo kept horizon (wordOf (now (words .entry))) best ⌝ }
 {
     let from = kept.from;
     let terms = kept.terms;
@@ -119,7 +119,7 @@ pub fn best_of(words: &[u64], costs: &[u64], kept: Kept, horizon: u64, best: Bes
     requires { ⌜ KeptFits kept × CostsTo kept horizon (now costs) × (120 ≤ length (now costs)) ⌝ }
     requires { ⌜ (kept .from ≤ horizon) × (horizon ≤ 300) ⌝ }
     requires { ⌜ (horizon < length (now words)) × WordsFit horizon (kept .from) (now words) ⌝ }
-    ensures { λ r. ⌜ r ≡ bestOver (mayEnd kept) (keptCost kept) (wordOf (now (words .entry))) (kept .from + 1) best (horizon - kept .from) ⌝ }
+    ensures { λ r. ⌜ r ≡ bestTo kept horizon (wordOf (now (words .entry))) best ⌝ }
 {
     let terms = kept.terms;
     let years = least(terms.longest, horizon - kept.from);

@@ -1,7 +1,7 @@
 // The words of every year, from the horizon down.
 
 ghost use mathlib.Core.Path.{_≡_};
-ghost use Prim.Native.Nat.{_+_, _-_, _<_, _≤_};
+ghost use Prim.Native.Nat.{_-_, _<_, _≤_};
 ghost use lib.ListN.{length};
 ghost use Rattle.sheet.specs.Sheet.{PlanningSheet};
 ghost use Rattle.sheet.specs.Parsed.{parsed, IsParsed};
@@ -10,7 +10,7 @@ ghost use Rattle.costing.specs.Fit.{KeptFits, Divides};
 ghost use Rattle.chain.specs.Chain.{replace};
 ghost use Rattle.choice.specs.Running.{noEntry};
 ghost use Rattle.tails.specs.Words.{withYear, WordsHeld, tailWords};
-ghost use Rattle.tails.specs.Best.{shown, bestOver, mayEnd, keptCost, CostsTo, wordOf, WordsFit, withBest, Lent};
+ghost use Rattle.tails.specs.Best.{shown, bestTo, CostsTo, wordOf, WordsFit, withBest, Lent};
 use crate::Best;
 use crate::REPLACE;
 use crate::arcs;
@@ -24,7 +24,7 @@ fn word(words: &mut [u64], costs: &[u64], kept: Kept, horizon: u64)
     requires { ⌜ KeptFits kept × CostsTo kept horizon (now costs) × (120 ≤ length (now costs)) ⌝ }
     requires { ⌜ (kept .from ≤ horizon) × (horizon ≤ 300) ⌝ }
     requires { ⌜ (602 ≤ length (now words)) × WordsFit horizon (kept .from) (now words) ⌝ }
-    ensures { λ _. ⌜ now (words .exit) ≡ withBest (kept .from) (bestOver (mayEnd kept) (keptCost kept) (wordOf (now (words .entry))) (kept .from + 1) (shown noEntry) (horizon - kept .from)) (now (words .entry)) ⌝ }
+    ensures { λ _. ⌜ now (words .exit) ≡ withBest (kept .from) (bestTo kept horizon (wordOf (now (words .entry))) (shown noEntry)) (now (words .entry)) ⌝ }
 {
     let none = Best {
         total: weighing::NONE,
