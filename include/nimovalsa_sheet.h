@@ -1,0 +1,216 @@
+/*
+ * nimovalsa_sheet.h: planning sheets and plans by named fields, for C and C++.
+ *
+ * nimovalsa.h says what the bytes are and what the library's calls answer.
+ * Here a sheet is a struct whose encoder writes those bytes, and a plan is a
+ * struct with an encoder and a decoder. The functions use no heap, keep
+ * nothing and call no other code.
+ *
+ * In C++ write struct nimovalsa_plan with its keyword: the call that plans has
+ * the same name.
+ */
+#ifndef NIMOVALSA_SHEET_H
+#define NIMOVALSA_SHEET_H
+
+#include "nimovalsa.h"
+
+/* The options, by their place in a sheet and their number in every call. */
+enum {
+    NIMOVALSA_MAINTAIN,
+    NIMOVALSA_RENOVATE,
+    NIMOVALSA_REPLACE,
+    NIMOVALSA_OPTIONS
+};
+
+#define NIMOVALSA_OVERHAULS 8
+
+/* In years; a feasible chain has no more replacements than this either. */
+#define NIMOVALSA_LONGEST_HORIZON 300
+
+/*
+ * Ages and lives are in years, amounts in whole currency units at the price
+ * level of year 0, inflations and ageings in millionths a year: 40,000 is 4 per
+ * cent. Maintenance and electricity are amounts a year. An inflation is the
+ * differential one, beyond general inflation.
+ */
+struct nimovalsa_overhaul {
+    uint16_t age;
+    uint32_t amount;
+};
+
+struct nimovalsa_record {
+    uint16_t shortest_life;
+    uint16_t longest_life;
+    uint32_t investment;
+    int32_t investment_inflation;
+    uint32_t maintenance;
+    int32_t maintenance_inflation;
+    uint32_t maintenance_ageing;
+    uint32_t electricity;
+    int32_t electricity_inflation;
+    uint32_t electricity_ageing;
+    int32_t overhaul_inflation;
+    uint8_t overhaul_count;
+    struct nimovalsa_overhaul overhauls[NIMOVALSA_OVERHAULS];
+};
+
+/* The rate is the real discount rate, in millionths a year. */
+struct nimovalsa_sheet {
+    uint16_t horizon;
+    uint32_t rate;
+    struct nimovalsa_record options[NIMOVALSA_OPTIONS];
+};
+
+/*
+ * A chain of activities and its total in units, 10,000 to a currency unit:
+ * maintain from year 0 to i, renovate from i to j, then count replacements, the
+ * first from j to ends[0], each later one from the end before it to its own.
+ */
+struct nimovalsa_plan {
+    uint64_t total;
+    uint16_t i;
+    uint16_t j;
+    uint16_t count;
+    uint16_t ends[NIMOVALSA_LONGEST_HORIZON];
+};
+
+/*
+ * What serves the functions below. The heads are mark and version, the first
+ * five bytes of a sheet and of a plan, as one number.
+ */
+#define NIMOVALSA_HEAD_BYTES 5
+#define NIMOVALSA_SHEET_HEAD 0x01534352 /* "RCS", 1 */
+#define NIMOVALSA_PLAN_HEAD 0x01504352  /* "RCP", 1 */
+
+/* Writes the low bytes of value, the lowest first; answers the place behind. */
+static inline uint8_t *nimovalsa_put(uint8_t *at, size_t bytes, uint64_t value)
+{
+    size_t k;
+
+    for (k = 0; k < bytes; k++)
+        at[k] = (uint8_t)(value >> (8 * k) & 255);
+    return at + bytes;
+}
+
+/* The number that so many bytes hold, at most eight of them. */
+static inline uint64_t nimovalsa_get(const uint8_t *at, size_t bytes)
+{
+    uint64_t value = 0;
+    size_t k;
+
+    for (k = 0; k < bytes; k++)
+        value |= (uint64_t)at[k] << (8 * k);
+    return value;
+}
+
+static inline uint16_t nimovalsa_get16(const uint8_t *at)
+{
+    return (uint16_t)nimovalsa_get(at, 2);
+}
+
+/* Writes a negative number in two's complement, as the sheet wants it. */
+static inline uint8_t *nimovalsa_put_rate(uint8_t *at, int32_t rate)
+{
+    return nimovalsa_put(at, 4, (uint32_t)rate);
+}
+
+static inline uint8_t *nimovalsa_put_record(uint8_t *at,
+                                            const struct nimovalsa_record *of)
+{
+    size_t k;
+
+    at = nimovalsa_put(at, 2, of->shortest_life);
+    at = nimovalsa_put(at, 2, of->longest_life);
+    at = nimovalsa_put(at, 4, of->investment);
+    at = nimovalsa_put_rate(at, of->investment_inflation);
+    at = nimovalsa_put(at, 4, of->maintenance);
+    at = nimovalsa_put_rate(at, of->maintenance_inflation);
+    at = nimovalsa_put(at, 4, of->maintenance_ageing);
+    at = nimovalsa_put(at, 4, of->electricity);
+    at = nimovalsa_put_rate(at, of->electricity_inflation);
+    at = nimovalsa_put(at, 4, of->electricity_ageing);
+    at = nimovalsa_put_rate(at, of->overhaul_inflation);
+    at = nimovalsa_put(at, 1, of->overhaul_count);
+    for (k = 0; k < NIMOVALSA_OVERHAULS; k++) {
+        at = nimovalsa_put(at, 2, of->overhauls[k].age);
+        at = nimovalsa_put(at, 4, of->overhauls[k].amount);
+    }
+    return at;
+}
+
+/*
+ * Writes all bytes of a sheet. It writes what the fields hold and refuses
+ * nothing: nimovalsa_check does, and so does every other call. That goes for
+ * overhauls at or past the count too: they are written as they are, and one
+ * that is not zero is refused with number 9. So fill a struct from zeros.
+ */
+static inline void nimovalsa_sheet_encode(const struct nimovalsa_sheet *sheet,
+                                          uint8_t bytes[NIMOVALSA_SHEET_BYTES])
+{
+    uint8_t *at = bytes;
+    size_t k;
+
+    at = nimovalsa_put(at, NIMOVALSA_HEAD_BYTES, NIMOVALSA_SHEET_HEAD);
+    at = nimovalsa_put(at, 2, sheet->horizon);
+    at = nimovalsa_put(at, 4, sheet->rate);
+    for (k = 0; k < NIMOVALSA_OPTIONS; k++)
+        at = nimovalsa_put_record(at, &sheet->options[k]);
+}
+
+/*
+ * Writes the bytes of a plan and answers their number, 19 + 2 count, which is
+ * the plan_length that nimovalsa_price wants. It answers 0 and writes nothing
+ * if count is above NIMOVALSA_LONGEST_HORIZON or length, that of the buffer, is
+ * too short. Whether the chain is feasible is not looked at: nimovalsa_price
+ * refuses one that is not. The bytes behind the plan keep their content.
+ */
+static inline size_t nimovalsa_plan_encode(const struct nimovalsa_plan *plan,
+                                           uint8_t *bytes, size_t length)
+{
+    uint8_t *at = bytes;
+    size_t k;
+
+    if (plan->count > NIMOVALSA_LONGEST_HORIZON ||
+        length < NIMOVALSA_PLAN_BYTES(plan->count))
+        return 0;
+    at = nimovalsa_put(at, NIMOVALSA_HEAD_BYTES, NIMOVALSA_PLAN_HEAD);
+    at = nimovalsa_put(at, 8, plan->total);
+    at = nimovalsa_put(at, 2, plan->i);
+    at = nimovalsa_put(at, 2, plan->j);
+    at = nimovalsa_put(at, 2, plan->count);
+    for (k = 0; k < plan->count; k++)
+        at = nimovalsa_put(at, 2, plan->ends[k]);
+    return NIMOVALSA_PLAN_BYTES(plan->count);
+}
+
+/*
+ * Reads the plan at the front of length bytes and answers 1. There may be bytes
+ * behind it, as in the buffer that nimovalsa_plan was given; they are not read.
+ * It answers 0 and leaves the struct if the mark or version is wrong, the count
+ * is above NIMOVALSA_LONGEST_HORIZON, or the bytes end before the plan does. As
+ * in encoding, the chain need not be feasible. The ends at or past the count
+ * keep their content.
+ */
+static inline int nimovalsa_plan_decode(const uint8_t *bytes, size_t length,
+                                        struct nimovalsa_plan *plan)
+{
+    uint16_t count;
+    size_t k;
+
+    if (length < NIMOVALSA_PLAN_BYTES(0) ||
+        nimovalsa_get(bytes, NIMOVALSA_HEAD_BYTES) != NIMOVALSA_PLAN_HEAD)
+        return 0;
+    count = nimovalsa_get16(bytes + 17);
+    if (count > NIMOVALSA_LONGEST_HORIZON ||
+        length < NIMOVALSA_PLAN_BYTES(count))
+        return 0;
+    plan->total = nimovalsa_get(bytes + 5, 8);
+    plan->i = nimovalsa_get16(bytes + 13);
+    plan->j = nimovalsa_get16(bytes + 15);
+    plan->count = count;
+    for (k = 0; k < count; k++)
+        plan->ends[k] = nimovalsa_get16(bytes + NIMOVALSA_PLAN_BYTES(k));
+    return 1;
+}
+
+#endif

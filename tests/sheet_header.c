@@ -1,0 +1,242 @@
+/*
+ * What include/nimovalsa_sheet.h writes and reads: sheets, against the fields
+ * of tests/c; plans, encoded and decoded at every length, and with wrong bytes.
+ */
+#include "c/fields.h"
+
+#include <nimovalsa_sheet.h>
+
+#include <stdio.h>
+#include <stdlib.h>
+#include <string.h>
+
+enum {
+    PLAN_BYTES = NIMOVALSA_PLAN_BYTES(NIMOVALSA_LONGEST_HORIZON),
+
+    /* what stands in a plan's struct before its ends, and with all of them */
+    PLAN_FRONT = offsetof(struct nimovalsa_plan, ends),
+    PLAN_FIELDS = PLAN_FRONT + NIMOVALSA_LONGEST_HORIZON * sizeof(uint16_t)
+};
+
+static unsigned long passed;
+
+static void expect(int holds, const char *what)
+{
+    if (!holds) {
+        fprintf(stderr, "sheet header: %s\n", what);
+        exit(1);
+    }
+    passed++;
+}
+
+static void expect_sheet(const struct nimovalsa_sheet *sheet,
+                         const uint8_t *bytes, const char *what)
+{
+    uint8_t encoded[NIMOVALSA_SHEET_BYTES];
+
+    memset(encoded, 0xEE, sizeof encoded);
+    nimovalsa_sheet_encode(sheet, encoded);
+    expect(memcmp(encoded, bytes, sizeof encoded) == 0, what);
+}
+
+/* The paper's Table 1, in the order of the struct's fields. */
+static void encode_paper(void)
+{
+    static const struct nimovalsa_sheet paper = {
+        .horizon = 300,
+        .rate = 40000,
+        .options = {
+            [NIMOVALSA_MAINTAIN] = {
+                1, 15, 150000, 10300, 70000, 8500, 15000, 15000, 2000, 0, 10300,
+                2, {{5, 150000}, {10, 150000}},
+            },
+            [NIMOVALSA_RENOVATE] = {
+                1, 30, 1125000, 10300, 35000, 8500, 10000, 15000, 2000, 0,
+                10300, 2, {{10, 150000}, {20, 150000}},
+            },
+            [NIMOVALSA_REPLACE] = {
+                1, 60, 2500000, 10300, 10000, 8500, 5000, 10000, 2000, 0, 10300,
+                3, {{15, 150000}, {30, 150000}, {45, 150000}},
+            },
+        },
+    };
+    uint8_t bytes[NIMOVALSA_SHEET_BYTES];
+
+    make_paper_sheet(bytes);
+    expect_sheet(&paper, bytes, "the paper's sheet has other bytes");
+}
+
+/*
+ * Fields that all differ, so that no two can be exchanged unseen. The encoder
+ * writes what it is given: the inflations are negative, and all eight overhauls
+ * are filled though the count is 1.
+ */
+static struct nimovalsa_record unlike_record(uint16_t option)
+{
+    const int32_t base = 0x01020300 * (option + 1);
+    struct nimovalsa_record record = {
+        .shortest_life = (uint16_t)(0x1100 + option),
+        .longest_life = (uint16_t)(0x2200 + option),
+        .investment = (uint32_t)base + 1,
+        .investment_inflation = -base - 2,
+        .maintenance = (uint32_t)base + 3,
+        .maintenance_inflation = -base - 4,
+        .maintenance_ageing = (uint32_t)base + 5,
+        .electricity = (uint32_t)base + 6,
+        .electricity_inflation = -base - 7,
+        .electricity_ageing = (uint32_t)base + 8,
+        .overhaul_inflation = -base - 9,
+        .overhaul_count = 1,
+    };
+
+    for (unsigned entry = 0; entry < NIMOVALSA_OVERHAULS; entry++) {
+        record.overhauls[entry].age = (uint16_t)(0x3300 + 16 * option + entry);
+        record.overhauls[entry].amount = (uint32_t)base + 16 + entry;
+    }
+    return record;
+}
+
+/* Writes a record at the places that fields.h has for its fields. */
+static void put_record(uint8_t *at, const struct nimovalsa_record *record)
+{
+    put_lives(at, record->shortest_life, record->longest_life);
+    put32(at + INVESTMENT, record->investment);
+    put32(at + INVESTMENT_INFLATION, record->investment_inflation);
+    put32(at + MAINTENANCE, record->maintenance);
+    put32(at + MAINTENANCE_INFLATION, record->maintenance_inflation);
+    put32(at + MAINTENANCE_AGEING, record->maintenance_ageing);
+    put32(at + ELECTRICITY, record->electricity);
+    put32(at + ELECTRICITY_INFLATION, record->electricity_inflation);
+    put32(at + ELECTRICITY_AGEING, record->electricity_ageing);
+    put32(at + OVERHAUL_INFLATION, record->overhaul_inflation);
+    put(at + OVERHAUL_COUNT, 1, record->overhaul_count);
+    for (size_t entry = 0; entry < NIMOVALSA_OVERHAULS; entry++)
+        put_overhaul(at, entry, record->overhauls[entry].age,
+                     record->overhauls[entry].amount);
+}
+
+static void encode_unlike_fields(void)
+{
+    struct nimovalsa_sheet sheet = {.horizon = 0xABCD, .rate = 0xFEDCBA98};
+    uint8_t bytes[NIMOVALSA_SHEET_BYTES];
+
+    put_head(bytes, sheet.horizon, sheet.rate);
+    for (uint16_t option = 0; option < OPTIONS; option++) {
+        sheet.options[option] = unlike_record(option);
+        put_record(record_of(bytes, option), &sheet.options[option]);
+    }
+    expect_sheet(&sheet, bytes, "a field is written elsewhere");
+}
+
+static struct nimovalsa_plan plan_of(uint16_t count)
+{
+    struct nimovalsa_plan plan = {
+        .total = 0x1122334455667788, .i = 0x0102, .j = 0x0304, .count = count};
+
+    for (unsigned k = 0; k < NIMOVALSA_LONGEST_HORIZON; k++)
+        plan.ends[k] = (uint16_t)(0x0506 + 3 * k);
+    return plan;
+}
+
+/* What is written, byte by byte, and what is left behind it. */
+static void encode_plan(void)
+{
+    static const uint8_t want[] = {
+        'R',  'C',  'P',  1,    0,    0x88, 0x77, 0x66, 0x55, 0x44, 0x33, 0x22,
+        0x11, 0x02, 0x01, 0x04, 0x03, 2,    0,    0x06, 0x05, 0x09, 0x05, 0xEE,
+    };
+    const struct nimovalsa_plan plan = plan_of(2);
+    uint8_t bytes[sizeof want];
+
+    memset(bytes, 0xEE, sizeof bytes);
+    expect(nimovalsa_plan_encode(&plan, bytes, sizeof bytes) == 23,
+           "the length of a plan is wrong");
+    expect(memcmp(bytes, want, sizeof bytes) == 0, "a plan has other bytes");
+}
+
+/* Into a buffer of length bytes: the whole plan, or nothing if it is short. */
+static void try_encode(const struct nimovalsa_plan *plan, const uint8_t *whole,
+                       size_t length)
+{
+    const size_t full = NIMOVALSA_PLAN_BYTES(plan->count);
+    const size_t written = length < full ? 0 : full;
+    uint8_t bytes[PLAN_BYTES + 1], want[PLAN_BYTES + 1];
+
+    memset(bytes, 0xEE, sizeof bytes);
+    memset(want, 0xEE, sizeof want);
+    memcpy(want, whole, written);
+    expect(nimovalsa_plan_encode(plan, bytes, length) == written,
+           "a plan is encoded at another length");
+    expect(memcmp(bytes, want, sizeof want) == 0,
+           "a plan is written otherwise");
+}
+
+/*
+ * From the first length bytes: the plan, or nothing if they end before it. They
+ * are the end of a heap block, so that valgrind sees whether more is read.
+ */
+static void try_decode(const struct nimovalsa_plan *plan, const uint8_t *whole,
+                       size_t length)
+{
+    const int there = length >= NIMOVALSA_PLAN_BYTES(plan->count);
+    struct nimovalsa_plan read, want;
+    uint8_t *block = malloc(1 + length);
+
+    expect(block != NULL, "no memory");
+    memcpy(block + 1, whole, length);
+    memset(&read, 0xEE, sizeof read);
+    memset(&want, 0xEE, sizeof want);
+    if (there)
+        memcpy(&want, plan, PLAN_FRONT + plan->count * sizeof *plan->ends);
+    expect(nimovalsa_plan_decode(block + 1, length, &read) == there,
+           "a plan is decoded at another length");
+    expect(memcmp(&read, &want, PLAN_FIELDS) == 0, "a plan is read otherwise");
+    free(block);
+}
+
+static void try_lengths(uint16_t count)
+{
+    const struct nimovalsa_plan plan = plan_of(count);
+    uint8_t whole[PLAN_BYTES + 1] = {0};
+
+    nimovalsa_plan_encode(&plan, whole, sizeof whole);
+    for (size_t length = 0; length <= NIMOVALSA_PLAN_BYTES(count) + 1;
+         length++) {
+        try_encode(&plan, whole, length);
+        try_decode(&plan, whole, length);
+    }
+}
+
+/* Each byte of mark and version, and a count of more than there is room for. */
+static void refuse_wrong_bytes(void)
+{
+    struct nimovalsa_plan plan = plan_of(NIMOVALSA_LONGEST_HORIZON);
+    uint8_t bytes[2 * PLAN_BYTES] = {0};
+
+    nimovalsa_plan_encode(&plan, bytes, sizeof bytes);
+    for (size_t k = 0; k < NIMOVALSA_HEAD_BYTES; k++) {
+        bytes[k] ^= 4;
+        expect(!nimovalsa_plan_decode(bytes, sizeof bytes, &plan),
+               "a wrong mark or version is decoded");
+        bytes[k] ^= 4;
+    }
+    put16(bytes + 17, NIMOVALSA_LONGEST_HORIZON + 1);
+    expect(!nimovalsa_plan_decode(bytes, sizeof bytes, &plan),
+           "a count above the longest horizon is decoded");
+    plan.count = NIMOVALSA_LONGEST_HORIZON + 1;
+    expect(nimovalsa_plan_encode(&plan, bytes, sizeof bytes) == 0,
+           "a count above the longest horizon is encoded");
+}
+
+int main(void)
+{
+    encode_paper();
+    encode_unlike_fields();
+    encode_plan();
+    for (uint16_t count = 0; count <= 3; count++)
+        try_lengths(count);
+    try_lengths(NIMOVALSA_LONGEST_HORIZON);
+    refuse_wrong_bytes();
+    printf("sheet header: %lu comparisons passed\n", passed);
+    return 0;
+}
