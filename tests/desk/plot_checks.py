@@ -1,0 +1,296 @@
+"""Checks of tools/plot."""
+
+import re
+import struct
+from typing import NamedTuple
+from xml.etree import ElementTree
+
+from . import sheets
+
+SVG = '{http://www.w3.org/2000/svg}'
+
+# The paper's case study: its plan, and the present values of its Table 5 in whole euros.
+PAPER_ENDS = [0, 0, 60, 120, 180, 240, 300]
+PAPER_TOTAL = 38_979_204_269
+PAPER_EUROS = ['3,237,632', '547,643', '93,695', '16,152', '2,798', '3,897,920']
+
+# Document 01's case 12, and the lines that planshow prints for it.
+CASE_12 = sheets.only_replace(4, 0, 1, 3, 10, 1, overhauls=[(2, 15)])
+CASE_12_LINES = 'total 240000\nmaintain 0 0\nrenovate 0 0\nreplace 0 2\nreplace 2 4\n'
+
+# A sheet without discount on which every option costs 1 euro a year and 10 at the start, for 1 to 120 years.
+ALL_OFFERED = sheets.head(300, 0) + 3 * sheets.record(1, 120, 10, 1)
+
+
+def run(bench):
+    steps_and_arcs(bench)
+    bench.put('paper', sheets.PAPER)
+    bench.put('case12', CASE_12)
+    bench.put('all', ALL_OFFERED)
+    the_paper(bench)
+    small_plans(bench)
+    many_layouts(bench)
+    no_plan(bench)
+    faulty_lines(bench)
+    faulty_bytes(bench)
+    infeasible_chains(bench)
+    files_and_use(bench)
+
+
+def steps_and_arcs(bench):
+    """Document 01's cases 1 to 8."""
+    from nimovalsa.cost import arc_cost, in_service_step, plain_step
+    from nimovalsa.sheet import decode
+    bench.equal(plain_step(10_000, 0, 40_000), 9_615, 'case 1')
+    bench.equal(plain_step(9_615, 0, 40_000), 9_245, 'case 2')
+    bench.equal(plain_step(5, -100_000, 0), 5, 'case 3')
+    bench.equal(in_service_step(10_000, 0, 20_000, 40_000), 9_808, 'case 4')
+    bench.equal(in_service_step(10_000, 10_000, 20_000, 40_000), 9_906, 'case 5')
+    plain = decode(sheets.only_replace(3, 40_000, 1, 2, 1, 1)).records[2]
+    overhauled = decode(sheets.only_replace(3, 40_000, 1, 2, 1, 1, overhauls=[(1, 1)])).records[2]
+    bench.equal(arc_cost(plain, 40_000, 1, 3), 27_749, 'case 6')
+    bench.equal(arc_cost(overhauled, 40_000, 1, 3), 36_994, 'case 7')
+    bench.equal(arc_cost(overhauled, 40_000, 1, 2), 18_860, 'case 8')
+
+
+def plan_lines(total, ends):
+    names = ['maintain', 'renovate'] + ['replace'] * (len(ends) - 2)
+    activities = zip(names, [0, *ends], ends)
+    return f'total {total}\n' + ''.join(f'{name} {start} {end}\n' for name, start, end in activities)
+
+
+def plan_bytes(total, ends):
+    i, j, *others = ends
+    return b'RCP' + struct.pack(f'<HQHHH{len(others)}H', 1, total, i, j, len(others), *others)
+
+
+def drawn(bench, sheet, total, ends):
+    """The drawing of a plan, which its bytes and its lines give alike."""
+    bench.put('plan', plan_bytes(total, ends))
+    bench.succeeds('plot', sheet, 'plan', 'out.svg')
+    svg = bench.get('out.svg')
+    from_lines = bench.succeeds('plot', sheet, '-', '-', data=plan_lines(total, ends).encode())
+    bench.equal(from_lines, svg, 'the drawing from lines and that from bytes')
+    return ElementTree.fromstring(svg)
+
+
+def texts(picture):
+    return [text.text for text in picture.iter(f'{SVG}text')]
+
+
+def bars(picture):
+    """What the bars tell, in their order."""
+    return [bar.find(f'{SVG}title').text for bar in picture.iter(f'{SVG}rect') if bar.find(f'{SVG}title') is not None]
+
+
+def the_paper(bench):
+    picture = drawn(bench, 'paper', PAPER_TOTAL, PAPER_ENDS)
+    bench.equal(picture.tag, f'{SVG}svg', 'the root')
+    bench.equal(picture.get('font-family'), 'sans-serif', 'the font')
+    bench.holds(re.fullmatch('0 0 [0-9]+ [0-9]+', picture.get('viewBox')), 'a view box')
+    bench.equal(picture[0].tag, f'{SVG}title', 'a title first')
+    bench.holds('3,897,920.4269' in picture.find(f'{SVG}desc').text, 'the exact total in the description')
+    written = texts(picture)
+    for text in ['maintain', 'renovate', 'replace', 'total', '0\u201360', '240\u2013300', '0', '300', *PAPER_EUROS]:
+        bench.holds(text in written, f'{text} is written')
+    bench.holds('Total present value 3,897,920 euros' in ' '.join(written), 'the total in euros')
+    tell = bars(picture)
+    for start in range(0, 300, 60):
+        told = [bar for bar in tell if bar.startswith(f'replace {start} to {start + 60}: ')]
+        bench.equal(len(told), 2, f'a bar on the time line and one in the table from {start}')
+    bench.equal(len(tell), 10, 'bars')
+    units = sum(int(re.sub('[^0-9]', '', bar.split(': ')[1])) for bar in tell)
+    bench.equal(units, 2 * PAPER_TOTAL, 'the sum of what the bars tell')
+    laid_out(bench, picture, 'the paper')
+
+
+def small_plans(bench):
+    bench.put('plan', CASE_12_LINES.encode())
+    bench.succeeds('plot', 'case12', 'plan', 'out.svg')
+    picture = drawn(bench, 'case12', 240_000, [0, 0, 2, 4])
+    bench.equal(ElementTree.tostring(picture), ElementTree.tostring(ElementTree.fromstring(bench.get('out.svg'))),
+                'the drawing of case 12')
+    bench.equal(bars(picture), 2 * ['replace 0 to 2: 12.0000 euros', 'replace 2 to 4: 12.0000 euros'], 'case 12')
+    bench.put('yearly', sheets.only_replace(3, 0, 1, 2, 0, 1))
+    picture = drawn(bench, 'yearly', 30_000, [0, 0, 2, 3])
+    bench.equal(bars(picture)[:2], ['replace 0 to 2: 2.0000 euros', 'replace 2 to 3: 1.0000 euros'], 'case 11')
+    bench.put('one', sheets.head(1, 0) + sheets.record(1, 1) + 2 * sheets.record())
+    picture = drawn(bench, 'one', 0, [1, 1])
+    bench.equal(bars(picture), ['maintain 0 to 1: 0.0000 euros'], 'a plan of one year that costs nothing')
+
+
+def many_layouts(bench):
+    """Texts do not overlap, stay on the paper and can be read on what is behind them."""
+    yearly = list(range(1, 301))
+    picture = drawn(bench, 'all', 300 * 110_000, [0, 0, *yearly])
+    bench.holds({'279 replacements', '21\u2013300', '3,069', '3,300'} <= set(texts(picture)),
+                'of 300 replacements the last ones share a row')
+    for ends in ([0, 0, *yearly], [0, 0, 120, 240, 300], [1, 2, *yearly[2:]], [120, 240, 300], [90, 91, 92, 180, 300],
+                 [5, 35, 95, 155, 156, 215, 300], [0, 0, *range(12, 301, 12)], [0, 0, *range(13, 286, 13), 300],
+                 [3, 3, 5, 100, 200, 300], [90, 90, 210, 299, 300]):
+        lengths = [end - start for start, end in zip([0, *ends], ends)]
+        total = sum(10_000 * (10 + length) for length in lengths if length)
+        laid_out(bench, drawn(bench, 'all', total, ends), f'ends {ends}')
+    for horizon in (1, 2, 7, 16, 17, 99, 119, 120):
+        bench.put('short', sheets.put(ALL_OFFERED, sheets.HORIZON, 'H', horizon))
+        laid_out(bench, drawn(bench, 'short', 10_000 * (10 + horizon), [0, 0, horizon]), f'horizon {horizon}')
+    renovated = [118, 120]
+    bench.put('short', sheets.put(ALL_OFFERED, sheets.HORIZON, 'H', 120))
+    laid_out(bench, drawn(bench, 'short', 10_000 * 140, renovated), f'ends {renovated}')
+    largest = sheets.head(300, 0) + 3 * sheets.record(1, 120, 10**9, 10**9)
+    bench.put('largest', largest)
+    laid_out(bench, drawn(bench, 'largest', 600 * 10**13, [0, 0, *yearly]), 'the largest amounts')
+
+
+def laid_out(bench, picture, what):
+    width, height = map(int, picture.get('viewBox').split()[2:])
+    rects = list(picture.iter(f'{SVG}rect'))
+    placed = []
+    for text in picture.iter(f'{SVG}text'):
+        box = box_of(text)
+        bench.holds(0 <= box.left and box.right <= width and 0 <= box.top and box.bottom <= height,
+                    f'{what}: {text.text} is not on the paper')
+        near = [other for other, its in placed if overlap(spaced(box), its)]
+        bench.holds(not near, f'{what}: {text.text} is too near to {near}')
+        placed.append((text.text, box))
+        behind = [rect for rect in rects if covers(rect, box)]
+        bench.holds(contrast(text.get('fill', picture.get('fill')), behind[-1].get('fill')) >= 4.5,
+                    f'{what}: {text.text} has little contrast')
+
+
+class Box(NamedTuple):
+    left: float
+    top: float
+    right: float
+    bottom: float
+
+
+def box_of(text):
+    """About where a text stands; a digit of a common sans-serif font is 0.64 of its size wide, a bold one 0.7."""
+    size = float(text.get('font-size', 13))
+    width = len(text.text) * size * (0.7 if text.get('font-weight') == 'bold' else 0.64)
+    x, y = float(text.get('x')), float(text.get('y'))
+    left = x - width * {'start': 0, 'middle': 0.5, 'end': 1}[text.get('text-anchor', 'start')]
+    return Box(left, y - 0.75 * size, left + width, y + 0.25 * size)
+
+
+def overlap(one, other):
+    return (one.left < other.right and other.left < one.right
+            and one.top < other.bottom and other.top < one.bottom)
+
+
+def spaced(box):
+    """A text with the room that it wants at its sides."""
+    return box._replace(left=box.left - 3, right=box.right + 3)
+
+
+def covers(rect, box):
+    """Whether a rectangle is behind a text, be it in part."""
+    if rect.get('width') == '100%':
+        return True
+    left, top, width, height = (float(rect.get(name)) for name in ('x', 'y', 'width', 'height'))
+    return overlap(Box(left, top, left + width, top + height), box)
+
+
+def contrast(ink, paper):
+    """The ratio of luminances of two colours, as the guidelines for web pages define it."""
+    lighter, darker = sorted((luminance(ink), luminance(paper)), reverse=True)
+    return (lighter + 0.05) / (darker + 0.05)
+
+
+def luminance(colour):
+    parts = [int(colour[at:at + 2], 16) / 255 for at in (1, 3, 5)]
+    linear = [part / 12.92 if part <= 0.03928 else ((part + 0.055) / 1.055) ** 2.4 for part in parts]
+    return sum(share * part for share, part in zip((0.2126, 0.7152, 0.0722), linear))
+
+
+def refuse(bench, sheet, plan, says):
+    """Holds if plot refuses a plan, as lines or bytes, and makes no file."""
+    bench.put('plan', plan.encode() if isinstance(plan, str) else plan)
+    bench.fails(says, 'plot', sheet, 'plan', 'never.svg')
+
+
+def no_plan(bench):
+    refuse(bench, 'case12', 'refused 11 3\n', 'plan: no plan, refused 11 3: the sheet has no feasible chain')
+    refuse(bench, 'case12', 'refused 3 3', 'plan: no plan, refused 3 3')
+    refuse(bench, 'case12', 'refused 12 4\n', 'plan:1: neither plan bytes nor a line total NUMBER')
+    refuse(bench, 'case12', CASE_12_LINES.replace('240000', '240001'),
+           'plan: the total is 240001 units, the activities cost 240000')
+    refuse(bench, 'case12', plan_bytes(0, [0, 0, 2, 4]), 'plan: the total is 0 units')
+    refuse(bench, 'paper', plan_bytes(PAPER_TOTAL - 1, PAPER_ENDS), f'plan: the total is {PAPER_TOTAL - 1} units')
+
+
+def faulty_lines(bench):
+    lines = CASE_12_LINES.splitlines()
+
+    def changed(line, to):
+        return '\n'.join(lines[:line - 1] + to + lines[line:]) + '\n'
+
+    nor = 'neither plan bytes nor a line '
+    refuse(bench, 'case12', '', 'plan:1: the line total NUMBER is missing')
+    refuse(bench, 'case12', b'\xff\0\n', f'plan:1: {nor}total NUMBER')
+    refuse(bench, 'case12', sheets.PAPER, f'plan:1: {nor}total NUMBER')
+    refuse(bench, 'case12', changed(1, []), f'plan:1: {nor}total NUMBER')
+    refuse(bench, 'case12', changed(1, ['total -1']), f'plan:1: {nor}total NUMBER')
+    refuse(bench, 'case12', changed(1, ['total 24.0']), f'plan:1: {nor}total NUMBER')
+    refuse(bench, 'case12', changed(2, []), f'plan:2: {nor}maintain NUMBER NUMBER')
+    refuse(bench, 'case12', changed(3, ['replace 0 0']), f'plan:3: {nor}renovate NUMBER NUMBER')
+    refuse(bench, 'case12', changed(4, ['replace 0']), f'plan:4: {nor}replace NUMBER NUMBER')
+    refuse(bench, 'case12', changed(4, ['']), f'plan:4: {nor}replace NUMBER NUMBER')
+    refuse(bench, 'case12', changed(5, ['maintain 2 4']), f'plan:5: {nor}replace NUMBER NUMBER')
+    refuse(bench, 'case12', 'total 0\nmaintain 0 0\n', 'plan:2: the line renovate NUMBER NUMBER is missing')
+    refuse(bench, 'case12', changed(2, ['maintain 1 1']), 'plan:2: maintain starts in year 1, must start in year 0')
+    refuse(bench, 'case12', changed(5, ['replace 3 4']), 'plan:5: replace starts in year 3, must start in year 2')
+
+
+def faulty_bytes(bench):
+    plan = plan_bytes(240_000, [0, 0, 2, 4])
+    refuse(bench, 'case12', plan[:18], 'plan: a plan has at least 19 bytes, this has 18')
+    refuse(bench, 'case12', plan[:-1], 'plan: a plan with 2 replacements has 23 bytes, this has 22')
+    refuse(bench, 'case12', plan + b'\0', 'plan: a plan with 2 replacements has 23 bytes, this has 24')
+    refuse(bench, 'case12', plan[:3] + b'\2' + plan[4:], 'plan: the version is 2, must be 1')
+    refuse(bench, 'case12', plan + bytes(2**18), 'plan: is longer than ')
+
+
+def infeasible_chains(bench):
+    bench.put('lives', sheets.head(30, 0) + sheets.record(2, 5) + sheets.record(3, 6) + sheets.record(4, 10))
+    says = 'plan: not a feasible chain: '
+    for ends, reason in (
+            ([1, 1, 11, 21, 30], 'maintain 0 to 1 lasts 1 year, the sheet offers 2 to 5 years'),
+            ([6, 6, 16, 26, 30], 'maintain 0 to 6 lasts 6 years'),
+            ([0, 2, 10, 20, 30], 'renovate 0 to 2 lasts 2 years, the sheet offers 3 to 6 years'),
+            ([0, 7, 10, 20, 30], 'renovate 0 to 7 lasts 7 years'),
+            ([0, 0, 3, 10, 20, 30], 'replace 0 to 3 lasts 3 years, the sheet offers 4 to 10 years'),
+            ([0, 0, 11, 20, 30], 'replace 0 to 11 lasts 11 years'),
+            ([0, 0, 10, 10, 20, 30], 'replace 10 to 10 lasts 0 years'),
+            ([5, 3, 10, 20, 30], 'renovate 5 to 3 ends before it starts'),
+            ([0, 0, 10, 9, 20, 30], 'replace 10 to 9 ends before it starts'),
+            ([0, 0, 10, 20, 29], 'it ends in year 29, the horizon is 30 years'),
+            ([0, 0, 10, 20, 30, 40], 'replace 30 to 40 ends after the horizon, 30 years'),
+            ([0, 0], 'it ends in year 0, the horizon is 30 years')):
+        refuse(bench, 'lives', plan_bytes(0, ends), says + reason)
+        refuse(bench, 'lives', plan_lines(0, ends), says + reason)
+    no_offer = 'is an option that the sheet does not offer'
+    refuse(bench, 'case12', plan_lines(0, [2, 2, 4]), f'{says}maintain 0 to 2 {no_offer}')
+    refuse(bench, 'case12', plan_lines(0, [0, 2, 4]), f'{says}renovate 0 to 2 {no_offer}')
+
+
+def files_and_use(bench):
+    bench.put('plan', CASE_12_LINES.encode())
+    bench.put('kept.svg', b'as it was')
+    bench.fails('plan: refused 1 3: ', 'plot', 'plan', 'plan2', 'kept.svg')
+    bench.put('faulty', sheets.put(CASE_12, sheets.HORIZON, 'H', 301))
+    bench.fails('faulty: refused 3 3: horizon is 301 years', 'plot', 'faulty', 'plan', 'kept.svg')
+    bench.fails('none: cannot be read: ', 'plot', 'none', 'plan', 'kept.svg')
+    bench.fails('none: cannot be read: ', 'plot', 'case12', 'none', 'kept.svg')
+    bench.fails('none/out.svg: cannot be written: ', 'plot', 'case12', 'plan', 'none/out.svg')
+    bench.fails('standard input:1: ', 'plot', 'case12', '-', 'kept.svg')
+    run = bench.program('plot', '-', 'plan', 'kept.svg', data=CASE_12)
+    bench.equal((run.status, run.out, run.err), (0, b'', ''), 'tools/plot as a program')
+    bench.equal(bench.get('kept.svg'), bench.succeeds('plot', 'case12', 'plan', '-'), 'a file and standard output')
+    for arguments in ([], ['case12'], ['case12', 'plan'], ['case12', 'plan', 'a.svg', 'b.svg'], ['-', '-', 'a.svg'],
+                      ['case12', 'plan', '--out'], ['case12', 'plan', ''], ['--help', 'plan', 'a.svg'], ['-h']):
+        bench.fails('tools/plot: use: ', 'plot', *arguments, status=2)
+    bench.fails('plan: is given twice', 'plot', 'case12', 'plan', 'plan', status=2)
+    bench.fails('case12: is given twice', 'plot', 'case12', 'plan', 'case12', status=2)
+    bench.holds(b'tools/plot SHEET PLAN OUT.svg' in bench.succeeds('plot', '--help'), 'tools/plot --help')
