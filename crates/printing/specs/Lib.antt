@@ -1,0 +1,4 @@
+-- The definitions of printing, in reading order.
+pub mod Lines
+pub mod Showing
+pub mod Puts

@@ -1,0 +1,68 @@
+-- What is printed of a sheet, and what is left in a lent text: document 01, the program `planshow`. Definitions only.
+use Prim.Native.Nat.{ℕ, _+_, _*_, _≤_}
+use mathlib.Core.Path.{_≡_}
+use mathlib.Core.Bool.{Bool, cond, _&&_}
+use mathlib.Core.List.{List}
+use lib.Dec.{leb, eqb}
+use lib.ListN.{length, take, replicate}
+use lib.Seq.{sets}
+use Rattle.sheet.specs.Sheet.{sheetOf}
+use Rattle.checking.specs.Refusals.{checked}
+use Rattle.checking.specs.Passes.{Passes}
+use Rattle.checking.specs.declared.Answer.{Answer}
+use Rattle.chain.specs.Chain.{Chain, Feasible, roundedTotal}
+use Rattle.chain.specs.PlanBytes.{countField}
+use Rattle.front.specs.ChosenChain.{ChosenChain}
+use Rattle.planner.specs.Planning.{planAnswer, planAfter}
+use Rattle.printing.specs.Lines.{planLines, linesOf, refusedLine}
+
+-- A text of 69 + 20m bytes holds the lines of every plan: 27 of the total, 21 each of maintain and renovate, 20 of each replacement. A total
+-- has at most 20 digits, a year at most 5.
+abbrev pub textFor : (m : ℕ) → ℕ
+textFor m = 69 + 20 * m
+
+-- the plan lies whole in its bytes, and the text is long enough for it
+abbrev pub printable : (plan text : List ℕ) → Bool
+printable plan text = leb (19 + 2 * countField plan) (length plan) && leb (textFor (countField plan)) (length text)
+
+-- what a text holds after a plan was printed to its front, and how many bytes that took; else it is left, and they are 0
+unfoldable pub linesAfter : (plan text : List ℕ) → List ℕ
+linesAfter plan text = cond (printable plan text) (sets text 0 (linesOf plan)) text
+
+unfoldable pub linesLength : (plan text : List ℕ) → ℕ
+linesLength plan text = cond (printable plan text) (length (linesOf plan)) 0
+
+-- so many bytes at the front of a text; the second part follows from the first, and is what lending them asks
+abbrev pub Front : ℕ → List ℕ → Type 0
+Front n text = (n ≤ length text) × (n ≡ length (take n text))
+
+-- what planning answered and wrote: the lines of the plan, or the refusal
+unfoldable pub printed : Answer → (plan : List ℕ) → List ℕ
+printed a plan = cond (eqb (a .number) 0) (linesOf plan) (refusedLine (a .number) (a .option))
+
+-- a sheet is planned in 619 = 19 + 2 · 300 plan bytes and 602 words, which are enough for every sheet; what is in them does not matter
+abbrev pub planRoom : List ℕ
+planRoom = replicate 619 0
+
+abbrev pub planWords : List ℕ
+planWords = replicate 602 0
+
+unfoldable pub shown : (sheet : List ℕ) → List ℕ
+shown s = printed (planAnswer s planRoom planWords) (planAfter s planRoom planWords)
+
+-- 6,069 bytes are enough for every sheet; with fewer the text is left, and 0 bytes are answered
+abbrev pub roomy : (text : List ℕ) → Bool
+roomy text = leb (textFor 300) (length text)
+
+unfoldable pub textAfter : (sheet text : List ℕ) → List ℕ
+textAfter s text = cond (roomy text) (sets text 0 (shown s)) text
+
+unfoldable pub textLength : (sheet text : List ℕ) → ℕ
+textLength s text = cond (roomy text) (length (shown s)) 0
+
+-- What is owed of every sheet, with no word of how a chain is found: a sheet that does not pass the checks is printed as its refusal, one
+-- that passes and has no feasible chain as refusal 11, any other as the chosen chain with its rounded total.
+pub record Shows (s text′ : List ℕ) : Type 0 where
+  pub refused : (Passes s → ⊥) → text′ ≡ refusedLine (checked s .number) (checked s .option)
+  pub none : Passes s → ((c : Chain) → Feasible (sheetOf s) c → ⊥) → text′ ≡ refusedLine 11 3
+  pub chosen : Passes s → (c : Chain) → ChosenChain (sheetOf s) c → text′ ≡ planLines (roundedTotal (sheetOf s) c) c
