@@ -1,0 +1,45 @@
+// Document 01, 'What an arc costs': an option kept from year `start` for `years` years. Every payment is stepped from year 0 by itself.
+
+use crate::figures::Overhauls;
+use crate::figures::Terms;
+use crate::figures::Yearly;
+use crate::numbers::plus;
+use crate::steps::in_service;
+use crate::steps::plain;
+use crate::steps::units;
+
+fn yearly(y: Yearly, rate: u64, start: u64, years: u64) -> u64 {
+    let mut sum = 0;
+    for k in 0..years {
+        let then = plain(units(y.amount), y.growth, rate, start);
+        sum = plus(sum, in_service(then, y, rate, plus(k, 1)));
+    }
+    sum
+}
+
+// The overhauls of age less than the length.
+fn overhauls(o: Overhauls, rate: u64, start: u64, years: u64) -> u64 {
+    let ages = o.ages;
+    let amounts = o.amounts;
+    let mut sum = 0;
+    for k in 0..8 {
+        if k < o.count {
+            if ages[k] < years {
+                let paid = plain(units(amounts[k]), o.growth, rate, plus(start, ages[k]));
+                sum = plus(sum, paid);
+            }
+        }
+    }
+    sum
+}
+
+pub fn arc(o: Terms, rate: u64, start: u64, years: u64) -> u64 {
+    if years == 0 {
+        return 0;
+    }
+    let invested = plain(units(o.investment), o.growth, rate, start);
+    let overhauled = overhauls(o.overhauls, rate, start, years);
+    let maintained = yearly(o.maintenance, rate, start, years);
+    let powered = yearly(o.electricity, rate, start, years);
+    plus(plus(invested, overhauled), plus(maintained, powered))
+}

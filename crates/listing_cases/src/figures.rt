@@ -1,0 +1,34 @@
+// The figures of a sheet: document 01, 'The planning sheet'. An inflation f is held as 1,000,000 + f, and an ageing g as 1,000,000 + g.
+
+// Maintenance or electricity.
+pub struct Yearly {
+    pub amount: u64,
+    pub growth: u64,
+    pub ageing: u64,
+}
+
+// Ages and amounts at or past the count are 0.
+pub struct Overhauls {
+    pub growth: u64,
+    pub count: usize,
+    pub ages: [u64; 8],
+    pub amounts: [u64; 8],
+}
+
+pub struct Terms {
+    pub shortest: u64,
+    pub longest: u64,
+    pub investment: u64,
+    pub growth: u64,
+    pub maintenance: Yearly,
+    pub electricity: Yearly,
+    pub overhauls: Overhauls,
+}
+
+pub struct Figures {
+    pub horizon: u64,
+    pub rate: u64,
+    pub maintain: Terms,
+    pub renovate: Terms,
+    pub replace: Terms,
+}
