@@ -9,7 +9,7 @@ pub fn in_buffers(name: &[u8], sheet: &[u8], plan: &mut [u8], words: &mut [u64])
     heading(name);
     let a = planner::plan(sheet, plan, words);
     if a.number == 0 {
-        plan_lines(a.total, plan);
+        plan_lines(plan);
     } else {
         refused(a);
     }
