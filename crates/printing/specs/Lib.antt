@@ -2,3 +2,4 @@
 pub mod Lines
 pub mod Showing
 pub mod Puts
+pub mod Cases

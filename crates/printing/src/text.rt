@@ -57,20 +57,22 @@ fn put_number(text: &mut [u8], at: usize, number: u64) -> usize
     at + 1 + count
 }
 
-// A line of a word and a number.
+// A line of a word and a number, which has at most 20 digits.
 pub fn put_line(text: &mut [u8], at: usize, word: &[u8], number: u64) -> usize
-    requires { ⌜ at + length (line (now word) number) ≤ length (now text) ⌝ }
-    ensures { λ r. ⌜ Puts (now (text .entry)) at (line (now (word .entry)) number) (now (text .exit)) r ⌝ }
+    requires { ⌜ at + length (now word) + 22 ≤ length (now text) ⌝ }
+    ensures puts { λ r. ⌜ Puts (now (text .entry)) at (line (now (word .entry)) number) (now (text .exit)) r ⌝ }
+    ensures short { λ r. ⌜ r ≤ at + length (now (word .entry)) + 22 ⌝ }
 {
     let behind = put_word(text, at, word);
     let end = put_number(text, behind, number);
     put_word(text, end, b"\n")
 }
 
-// A line of a word and two numbers.
+// A line of a word and two numbers of at most 5 digits.
 pub fn put_pair(text: &mut [u8], at: usize, word: &[u8], first: u64, second: u64) -> usize
-    requires { ⌜ at + length (pairLine (now word) first second) ≤ length (now text) ⌝ }
-    ensures { λ r. ⌜ Puts (now (text .entry)) at (pairLine (now (word .entry)) first second) (now (text .exit)) r ⌝ }
+    requires { ⌜ (first ≤ 65_535) × (second ≤ 65_535) × (at + length (now word) + 13 ≤ length (now text)) ⌝ }
+    ensures puts { λ r. ⌜ Puts (now (text .entry)) at (pairLine (now (word .entry)) first second) (now (text .exit)) r ⌝ }
+    ensures short { λ r. ⌜ r ≤ at + length (now (word .entry)) + 13 ⌝ }
 {
     let behind = put_word(text, at, word);
     let between = put_number(text, behind, first);

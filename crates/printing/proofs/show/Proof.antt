@@ -5,8 +5,6 @@ use native.Mathlib.Omega.{arith}
 use lib.ListN.{length}
 use borrow.Author.Needs.{needs}
 use denote.Ref.{now}
-use Rattle.printing.specs.Lines.{refusedWord}
-use Rattle.printing.proofs.LineLaws.{years-length}
 use Rattle.printing.proofs.TextLaws.{puts-of-lines}
 use Rattle.printing.proofs.ShownLaws.{shown-plan, shown-refusal, sheet-left, sheet-put}
 use Rattle.printing.proofs.show.Statement.{statement}
@@ -40,9 +38,7 @@ cast-put-pair-2 : tie.Need-cast-put-pair-2
 cast-put-pair-2 c = search needs
 
 put-pair-requires : tie.Need-put-pair-requires
-put-pair-requires c κs =
-    let a = c .before .before .before .before .before .before .before .before .plan2 .result in
-    omega (arith, years-length refusedWord (a .number) (a .option) (omega arith) (omega arith))
+put-pair-requires c κs = (omega arith, omega arith, omega arith)
 
 same-length : tie.Need-same-length
 same-length c = search needs
@@ -66,7 +62,7 @@ returns-3 c =
     let t = c .before .before in
     let e = t .before .before .before .before .before in
     let planned = e .before .before .before .before .plan2 .ensures in
-    sheet-put _ _ (omega arith) _ _ (rw (shown-refusal _ _ _ (planned .0) (planned .1 .0) (e .if2 .left)) (t .put-pair .ensures))
+    sheet-put _ _ (omega arith) _ _ (rw (shown-refusal _ _ _ (planned .0) (planned .1 .0) (e .if2 .left)) (t .put-pair .ensures .0))
 
 pub show-spec : {M : Type 1} → statement M
 show-spec =

@@ -1,5 +1,5 @@
 -- The lines of a plan, each behind the one before. Assumes nothing.
-use Prim.Native.Nat.{_+_, _*_, _≤_}
+use Prim.Native.Nat.{_≤_}
 use mathlib.Core.Path.{_≡_, sym, _∙_}
 use native.Mathlib.Omega.{arith}
 use lib.ListN.{length}
@@ -7,9 +7,8 @@ use borrow.Author.Needs.{needs}
 use denote.Ref.{now}
 use Rattle.chain.specs.Chain.{activities}
 use Rattle.chain.specs.PlanBytes.{decode}
-use Rattle.printing.specs.Lines.{totalWord, maintainWord, renovateWord, activityLines, planLines}
+use Rattle.printing.specs.Lines.{activityLines, planLines}
 use Rattle.printing.proofs.PutLaws.{puts-more, puts-length}
-use Rattle.printing.proofs.LineLaws.{total-length, years-length}
 use Rattle.printing.proofs.lines.put_plan.Statement.{statement}
 use Rattle.printing.proofs.lines.put_plan.Tie as tie
 
@@ -26,17 +25,14 @@ total-of-requires : tie.Need-total-of-requires
 total-of-requires c κs = search needs
 
 put-line-requires : tie.Need-put-line-requires
-put-line-requires c κs = omega (arith, total-length totalWord (c .total-of .result) (omega arith))
+put-line-requires c κs = omega arith
 
 abbrev start : tie.After-put-line → tie.Start
 start c = c .before .before .before .before .before .before .before .before
 
 -- how far the lines reach at most, in a text that keeps its length
 first : (c : tie.After-put-line) → (c .put-line .result ≤ 27) × (length (c .put-line .last .0) ≡ length (now (start c .args .text)))
-first c =
-    let total = c .before .total-of .result in
-    let put = c .put-line .ensures in
-    (omega (arith, put .behind, total-length totalWord total (omega arith)), puts-length put)
+first c = (omega (arith, c .put-line .ensures .1), puts-length (c .put-line .ensures .0))
 
 second :
     (c : tie.After-put-pair) →
@@ -44,10 +40,7 @@ second :
     (c .put-pair .result ≤ 48) × (length (c .put-pair .last .0) ≡ length (now (start l .args .text)))
 second c =
     let l = c .before .before .before .before .before in
-    let i = l .before .before .before .before .before .u16-at in
-    let put = c .put-pair .ensures in
-    let read = i .ensures .1 in
-    (omega (arith, first l .0, put .behind, years-length maintainWord 0 (i .result) (omega arith) (omega arith)), puts-length put ∙ first l .1)
+    (omega (arith, first l .0, c .put-pair .ensures .1), puts-length (c .put-pair .ensures .0) ∙ first l .1)
 
 third :
     (c : tie.After-put-pair2) →
@@ -55,15 +48,7 @@ third :
     (c .put-pair2 .result ≤ 69) × (length (c .put-pair2 .last .0) ≡ length (now (start l .args .text)))
 third c =
     let m = c .before .before .before .before .before in
-    let l = m .before .before .before .before .before in
-    let i = l .before .before .before .before .before .u16-at in
-    let j = l .before .before .before .before .u16-at2 in
-    let put = c .put-pair2 .ensures in
-    let readI = i .ensures .1 in
-    let readJ = j .ensures .1 in (
-      omega (arith, second m .0, put .behind, years-length renovateWord (i .result) (j .result) (omega arith) (omega arith)),
-      puts-length put ∙ second m .1,
-    )
+    (omega (arith, second m .0, c .put-pair2 .ensures .1), puts-length (c .put-pair2 .ensures .0) ∙ second m .1)
 
 slice-aggregate-put-pair : tie.Need-slice-aggregate-put-pair
 slice-aggregate-put-pair c = search needs
@@ -71,9 +56,8 @@ slice-aggregate-put-pair c = search needs
 put-pair-requires : tie.Need-put-pair-requires
 put-pair-requires c κs =
     let l = c .before .before .before .before in
-    let i = l .before .before .before .before .before .u16-at in
-    let read = i .ensures .1 in
-    omega (arith, start l .pre .2, first l .0, first l .1, years-length maintainWord 0 (i .result) (omega arith) (omega arith))
+    let i = l .before .before .before .before .before .u16-at .ensures .1 in
+    (omega arith, omega arith, omega (arith, start l .pre .2, first l .0, first l .1))
 
 slice-aggregate-put-pair-2 : tie.Need-slice-aggregate-put-pair-2
 slice-aggregate-put-pair-2 c = search needs
@@ -82,12 +66,9 @@ put-pair-requires-2 : tie.Need-put-pair-requires-2
 put-pair-requires-2 c κs =
     let m = c .before .before .before .before in
     let l = m .before .before .before .before .before in
-    let i = l .before .before .before .before .before .u16-at in
-    let j = l .before .before .before .before .u16-at2 in
-    let readI = i .ensures .1 in
-    let readJ = j .ensures .1 in
-    omega
-    (arith, start l .pre .2, second m .0, second m .1, years-length renovateWord (i .result) (j .result) (omega arith) (omega arith))
+    let i = l .before .before .before .before .before .u16-at .ensures .1 in
+    let j = l .before .before .before .before .u16-at2 .ensures .1 in
+    (omega arith, omega arith, omega (arith, start l .pre .2, second m .0, second m .1))
 
 put-replacements-requires : tie.Need-put-replacements-requires
 put-replacements-requires c κs =
@@ -110,8 +91,8 @@ returns c =
     let j = l .before .before .before .before .u16-at2 .ensures .0 in
     let total = l .before .total-of .ensures in
     rw (sym i, sym j, sym total, sym (start l .pre .0))
-    (puts-more (l .put-line .ensures)
-    (puts-more (m .put-pair .ensures) (puts-more (n .put-pair2 .ensures) (r .put-replacements .ensures))))
+    (puts-more (l .put-line .ensures .0)
+    (puts-more (m .put-pair .ensures .0) (puts-more (n .put-pair2 .ensures .0) (r .put-replacements .ensures))))
 
 pub put-plan-spec : {M : Type 1} → statement M
 put-plan-spec =

@@ -9,9 +9,9 @@ use borrow.Author.Needs.{needs}
 use denote.Ref.{now}
 use Rattle.chain.specs.Chain.{replacements}
 use Rattle.chain.specs.PlanBytes.{endsAt}
-use Rattle.printing.specs.Lines.{replaceWord, activityLines}
+use Rattle.printing.specs.Lines.{activityLines}
 use Rattle.printing.proofs.PutLaws.{puts-left, puts-length}
-use Rattle.printing.proofs.LineLaws.{years-length, replaced-next, replaced-none}
+use Rattle.printing.proofs.LineLaws.{replaced-next, replaced-none}
 use Rattle.printing.proofs.lines.put_replacements.Statement.{statement}
 use Rattle.printing.proofs.lines.put_replacements.Tie as tie
 
@@ -39,9 +39,7 @@ slice-aggregate-put-pair c = search needs
 
 put-pair-requires : tie.Need-put-pair-requires Inv-loop μ-loop
 put-pair-requires c κs =
-    let loop = c .before .before .before .before .loop in
-    let end = c .before .before .u16-at .result in
-    omega (arith, years-length replaceWord (loop .year) end (omega arith) (omega arith))
+    let read = c .before .before .u16-at .ensures .1 in (omega arith, omega arith, omega arith)
 
 add-from : tie.Need-add-from Inv-loop μ-loop
 add-from c = omega arith
@@ -54,19 +52,19 @@ loop-less c = omega arith
 
 loop-again : tie.Need-loop-again Inv-loop μ-loop
 loop-again c =
-    let pair = c .before .before .put-pair .ensures in
+    let put = c .before .before .put-pair .ensures in
+    let pair = put .0 in
     let read = c .before .before .before .before .before .u16-at in
     let loop = c .before .before .before .before .before .before .before .loop in
     let plan = now (c .before .before .before .before .before .before .before .before .before .before .args .plan) in
     let next = replaced-next plan (loop .year) (loop .from) (loop .left) (omega arith) (read .result) (read .ensures .0) in
     let left = puts-left (activityLines (replacements (read .result) (endsAt plan (loop .from + 2) (loop .left - 1)))) pair in
-    let long = years-length replaceWord (loop .year) (read .result) (omega arith) (omega arith) in
     let inv = loop .inv .1 .1 in (
       omega arith,
       (
         omega arith,
         (
-          omega (arith, pair .behind, puts-length pair),
+          omega (arith, put .1, puts-length pair),
           (
             puts-length pair ∙ inv .1 .0,
             (

@@ -4,21 +4,19 @@ use borrow.Author.Needs.{needs}
 use denote.Ref.{now}
 use Rattle.printing.specs.Lines.{line}
 use Rattle.printing.proofs.PutLaws.{puts-more, puts-length}
-use Rattle.printing.proofs.LineLaws.{line-length}
+use Rattle.printing.proofs.LineLaws.{total-length}
 use Rattle.printing.proofs.text.put_line.Statement.{statement}
 use Rattle.printing.proofs.text.put_line.Tie as tie
 
 put-word-requires : tie.Need-put-word-requires
-put-word-requires c κs =
-    let s = c .before .before .before in
-    omega (arith, s .pre, line-length (now (s .args .word)) (s .args .number))
+put-word-requires c κs = omega arith
 
 put-number-requires : tie.Need-put-number-requires
 put-number-requires c κs =
     let w = c .before .before .before in
     let s = w .before .before .before .before in
     let word = w .put-word .ensures in
-    omega (arith, s .pre, line-length (now (s .args .word)) (s .args .number), word .behind, puts-length word)
+    omega (arith, s .pre, total-length (s .args .number) (omega arith), word .behind, puts-length word)
 
 slice-aggregate-put-word : tie.Need-slice-aggregate-put-word
 slice-aggregate-put-word c = search needs
@@ -31,7 +29,7 @@ put-word-requires-2 c κs =
     let word = w .put-word .ensures in
     let number = n .put-number .ensures in
     omega
-    (arith, s .pre, line-length (now (s .args .word)) (s .args .number), word .behind, puts-length word, number .behind, puts-length number)
+    (arith, s .pre, total-length (s .args .number) (omega arith), word .behind, puts-length word, number .behind, puts-length number)
 
 same-length : tie.Need-same-length
 same-length c = search needs
@@ -42,7 +40,13 @@ returns c =
     let e = c .before .before in
     let n = e .before .before .before .before .before in
     let w = n .before .before .before .before in
-    puts-more (puts-more (w .put-word .ensures) (n .put-number .ensures)) (e .put-word2 .ensures)
+    let s = w .before .before .before .before in
+    let word = w .put-word .ensures in
+    let number = n .put-number .ensures in
+    let end = e .put-word2 .ensures in (
+      puts-more (puts-more word number) end,
+      omega (arith, total-length (s .args .number) (omega arith), word .behind, number .behind, end .behind),
+    )
 
 pub put-line-spec : {M : Type 1} → statement M
 put-line-spec =

@@ -36,7 +36,7 @@ add-result-2 c = omega (arith, room (c .before .before .before .before))
 same-length : tie.Need-same-length
 same-length c =
     let a = c .before .before .before .before .before .before .args in
-    c .before .before .put-digits .kept .0 ∙ length-set (now (a .text)) (a .at) 32
+    c .before .before .put-digits .kept .0 ∙ length-set (now (a .text)) (a .at) _
 
 returns : tie.Need-returns
 unfolding decimal

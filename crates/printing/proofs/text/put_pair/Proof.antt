@@ -1,32 +1,37 @@
 -- A line is its word, its two numbers and its end, each behind the one before. Assumes nothing.
+use Prim.Native.Nat.{_≤_}
 use native.Mathlib.Omega.{arith}
+use lib.ListN.{length}
 use borrow.Author.Needs.{needs}
 use denote.Ref.{now}
-use Rattle.printing.specs.Lines.{pairLine}
+use Rattle.printing.specs.Lines.{spaced, pairLine}
 use Rattle.printing.proofs.PutLaws.{puts-more, puts-length}
-use Rattle.printing.proofs.LineLaws.{pairLine-length}
+use Rattle.printing.proofs.LineLaws.{year-length}
 use Rattle.printing.proofs.text.put_pair.Statement.{statement}
 use Rattle.printing.proofs.text.put_pair.Tie as tie
 
+-- the two numbers
+lengths : (s : tie.Start) → (length (spaced (s .args .first)) ≤ 6) × (length (spaced (s .args .second)) ≤ 6)
+lengths s = (year-length (s .args .first) (s .pre .0), year-length (s .args .second) (s .pre .1))
+
 put-word-requires : tie.Need-put-word-requires
-put-word-requires c κs =
-    let s = c .before .before .before in
-    omega (arith, s .pre, pairLine-length (now (s .args .word)) (s .args .first) (s .args .second))
+put-word-requires c κs = omega (arith, c .before .before .before .pre .2)
 
 put-number-requires : tie.Need-put-number-requires
 put-number-requires c κs =
     let w = c .before .before .before in
     let s = w .before .before .before .before in
     let word = w .put-word .ensures in
-    omega (arith, s .pre, pairLine-length (now (s .args .word)) (s .args .first) (s .args .second), word .behind, puts-length word)
+    omega (arith, s .pre .2, lengths s .0, word .behind, puts-length word)
 
 put-number-requires-2 : tie.Need-put-number-requires-2
 put-number-requires-2 c κs =
     let n = c .before .before .before in
     let w = n .before .before .before .before in
     let s = w .before .before .before .before in
-    let both = puts-more (w .put-word .ensures) (n .put-number .ensures) in
-    omega (arith, s .pre, pairLine-length (now (s .args .word)) (s .args .first) (s .args .second), both .behind, puts-length both)
+    let word = w .put-word .ensures in
+    let first = n .put-number .ensures in
+    omega (arith, s .pre .2, lengths s .0, lengths s .1, word .behind, first .behind, puts-length (puts-more word first))
 
 slice-aggregate-put-word : tie.Need-slice-aggregate-put-word
 slice-aggregate-put-word c = search needs
@@ -37,8 +42,11 @@ put-word-requires-2 c κs =
     let n = m .before .before .before .before in
     let w = n .before .before .before .before in
     let s = w .before .before .before .before in
-    let all = puts-more (puts-more (w .put-word .ensures) (n .put-number .ensures)) (m .put-number2 .ensures) in
-    omega (arith, s .pre, pairLine-length (now (s .args .word)) (s .args .first) (s .args .second), all .behind, puts-length all)
+    let word = w .put-word .ensures in
+    let first = n .put-number .ensures in
+    let second = m .put-number2 .ensures in
+    let long = puts-length (puts-more (puts-more word first) second) in
+    omega (arith, s .pre .2, lengths s .0, lengths s .1, word .behind, first .behind, second .behind)
 
 same-length : tie.Need-same-length
 same-length c = search needs
@@ -50,7 +58,14 @@ returns c =
     let m = e .before .before .before .before .before in
     let n = m .before .before .before .before in
     let w = n .before .before .before .before in
-    puts-more (puts-more (puts-more (w .put-word .ensures) (n .put-number .ensures)) (m .put-number2 .ensures)) (e .put-word2 .ensures)
+    let s = w .before .before .before .before in
+    let word = w .put-word .ensures in
+    let first = n .put-number .ensures in
+    let second = m .put-number2 .ensures in
+    let end = e .put-word2 .ensures in (
+      puts-more (puts-more (puts-more word first) second) end,
+      omega (arith, lengths s .0, lengths s .1, word .behind, first .behind, second .behind, end .behind),
+    )
 
 pub put-pair-spec : {M : Type 1} → statement M
 put-pair-spec =
