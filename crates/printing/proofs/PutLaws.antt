@@ -1,6 +1,6 @@
 -- Laws of bytes that are put into a text: one text behind another (`puts-more`, `puts-left`), in a text that keeps
 -- its length (`puts-length`); a byte before those that stand (`set-sets`). Assumes nothing.
-use Prim.Native.Nat.{ℕ, suc, _+_, _≤_, _<_}
+use Prim.Native.Nat.{ℕ, suc, _+_, _<_}
 use mathlib.Core.Path.{_≡_, refl, ap, sym, _∙_}
 use mathlib.Core.List.{List, [], _∷_, _++_}
 use native.Mathlib.Omega.{arith}

@@ -1,10 +1,6 @@
 -- A plan that does not lie whole in its bytes, or a text that is too short, is found before anything is put. Assumes nothing.
-use Prim.Native.Nat.{_+_, _*_, _≤_}
-use mathlib.Core.Path.{_≡_, ap, _∙_}
 use native.Mathlib.Omega.{arith}
-use lib.ListN.{length}
 use borrow.Author.Needs.{needs}
-use denote.Ref.{now}
 use Rattle.printing.proofs.TextLaws.{plan-cut, text-short, lines-put}
 use Rattle.printing.proofs.plan_lines.Statement.{statement}
 use Rattle.printing.proofs.plan_lines.Tie as tie

@@ -1,10 +1,6 @@
 -- A sheet is planned in its own buffers, which are enough, and what comes of it is put to the front of the text. Assumes nothing.
-use Prim.Native.Nat.{ℕ, _+_, _*_, _≤_}
-use mathlib.Core.Path.{_≡_, subst, _∙_}
 use native.Mathlib.Omega.{arith}
-use lib.ListN.{length}
 use borrow.Author.Needs.{needs}
-use denote.Ref.{now}
 use Rattle.printing.proofs.TextLaws.{puts-of-lines}
 use Rattle.printing.proofs.ShownLaws.{shown-plan, shown-refusal, sheet-left, sheet-put}
 use Rattle.printing.proofs.show.Statement.{statement}

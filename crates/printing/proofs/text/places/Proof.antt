@@ -1,6 +1,6 @@
 -- Digits are counted: those so far and those of what is left, less the one that both have, are all. Assumes nothing.
-use Prim.Native.Nat.{suc, _+_, _-_, _/_, _^_, _≤_, _<_}
-use mathlib.Core.Path.{_≡_, refl, ap, subst, _∙_}
+use Prim.Native.Nat.{suc, _+_, _-_, _^_, _≤_, _<_}
+use mathlib.Core.Path.{_≡_, refl}
 use native.Mathlib.Omega.{arith}
 use Rattle.printing.specs.Lines.{places}
 use Rattle.printing.proofs.DecimalLaws.{places-below, places-tenth}

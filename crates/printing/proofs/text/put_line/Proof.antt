@@ -1,7 +1,6 @@
 -- A line is its word, its number and its end, each behind the one before. Assumes nothing.
 use native.Mathlib.Omega.{arith}
 use borrow.Author.Needs.{needs}
-use denote.Ref.{now}
 use Rattle.printing.specs.Lines.{line}
 use Rattle.printing.proofs.PutLaws.{puts-more, puts-length}
 use Rattle.printing.proofs.LineLaws.{total-length}

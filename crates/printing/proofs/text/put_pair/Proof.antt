@@ -3,7 +3,6 @@ use Prim.Native.Nat.{_≤_}
 use native.Mathlib.Omega.{arith}
 use lib.ListN.{length}
 use borrow.Author.Needs.{needs}
-use denote.Ref.{now}
 use Rattle.printing.specs.Lines.{spaced, pairLine}
 use Rattle.printing.proofs.PutLaws.{puts-more, puts-length}
 use Rattle.printing.proofs.LineLaws.{year-length}
