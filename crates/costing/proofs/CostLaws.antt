@@ -13,7 +13,7 @@ use Rattle.checking.specs.Passes.{Passes}
 use Rattle.checking.specs.declared.Answer.{Answer}
 use Rattle.checking.proofs.CallLaws.{call-refused, call-stopped, call-passed, call-iff, call-total, call-range, call-lt}
 use Rattle.checking.proofs.FitLaws.{fit}
-use Rattle.costing.specs.Lists.{total, Every}
+use Rattle.costing.specs.Lists.{Every}
 use Rattle.costing.specs.Arc.{arcOf, payments, cost}
 use Rattle.costing.specs.Offered.{offered, Offered}
 use Rattle.costing.specs.Costing.{costing, costed}
