@@ -1,4 +1,4 @@
--- A test and what it means: each law but the first says that a test is true exactly when the fact holds. Assumes nothing.
+-- A test and what it means: a law `-iff` says that a test is true exactly when the fact holds. Assumes nothing.
 use Prim.Native.Nat.{ℕ, _≤_, _<_}
 use mathlib.Core.Path.{_≡_, refl, sym, subst}
 use mathlib.Core.Bool.{Bool, true, false, _&&_, _||_, false≢true}

@@ -1,6 +1,7 @@
 -- Laws of `Lists.antt`, for lists of anything. In order:
---     every-map, every-append      what holds of every member follows for every member, and holds of two lists together
---     total-append, total-cons, total-one, total-two      the sum over two lists, over a list with one member more, over one member and two
+--     every-map      what follows for each member follows for every member of a list
+--     every-append      what holds of every member of two lists holds of every member of both together
+--     total-append, total-cons, total-one, total-two      the sum over two lists together, over a member and the rest, over one and over two
 -- Assumes nothing.
 use Prim.Native.Nat.{ℕ, _+_}
 use mathlib.Core.Path.{_≡_, refl}
