@@ -11,6 +11,7 @@ use Rattle.sheet.specs.Sheet.{PlanningSheet}
 use Rattle.checking.proofs.TestLaws.{eqb-iff, both-iff}
 use Rattle.costing.specs.Lists.{Every}
 use Rattle.costing.specs.Offered.{Offered}
+use Rattle.costing.proofs.ListsLaws.{every-map}
 use Rattle.costing.proofs.OfferedLaws.{offered-iff}
 use Rattle.chain.specs.Chain.{Chain, maintain, renovate, replace, replacements, activities, Rising, last, OffersActivity, Reaches, Feasible}
 use Rattle.chain.specs.PlanBytes.{encode, decode}
@@ -87,10 +88,6 @@ rising-length T y (k ∷ ks) h = omega (arith, h .rising .0, rising-length T k k
 pub few-ends : (p : PlanningSheet) (c : Chain) → Feasible p c → length (c .ends) ≤ p .horizon
 few-ends p c h = omega (arith, rising-length (p .horizon) (c .j) (c .ends) (ordered-of-feasible p c h .climbs))
 
-narrow-inside : (T : ℕ) → T < 65_536 → (ks : List ℕ) → Every (λ k. k ≤ T) ks → Every (λ k. k < 65_536) ks
-narrow-inside T far [] h = tt
-narrow-inside T far (k ∷ ks) h = (omega (arith, h .0), narrow-inside T far ks (h .1))
-
 pub narrow-of-feasible : (p : PlanningSheet) → p .horizon < 65_536 → (c : Chain) → Feasible p c → Narrow c
 narrow-of-feasible p far c h =
     let few = few-ends p c h in
@@ -98,7 +95,7 @@ narrow-of-feasible p far c h =
       first = omega (arith, h .inside .0);
       second = omega (arith, h .inside .1 .0);
       count = omega arith;
-      years = narrow-inside (p .horizon) far (c .ends) (h .inside .1 .1);
+      years = every-map _ _ (λ k early. omega arith) (c .ends) (h .inside .1 .1);
     }
 
 -- decoding what was encoded gives the chain back, for every feasible chain of a sheet (its T is a u16) and every total field

@@ -41,7 +41,6 @@ shaped-iff plan =
     )
 
 -- how many bytes, and how many ends
-
 pub bytes-length : (n x : ℕ) → length (bytes n x) ≡ n
 unfolding bytes
 bytes-length zero x = refl

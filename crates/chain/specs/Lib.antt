@@ -1,4 +1,4 @@
--- The definitions of chain, in reading order.
+-- The definitions of chain, in reading order: chains, plan bytes, what pricing answers, its error, what the code asks, and the cases.
 pub mod Chain
 pub mod PlanBytes
 pub mod Fitting

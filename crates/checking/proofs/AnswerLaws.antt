@@ -1,9 +1,9 @@
 -- Laws of `Answer.antt`. In order:
---     unless-pass, unless-stop, unless-le, unless-iff      a row of the table; it gives 0 exactly when its rule holds and
---     what comes after gives 0
+--     unless-pass, unless-stop, unless-le      a row of the table by whether its rule holds, and its bound
+--     unless-iff      a row gives 0 exactly when its rule holds and what comes after gives 0
 --     answered-some, answered-iff      a number that is not 0 is a refusal
---     orElse-pass, orElse-stop, orElse-iff, first-zero, first-suc, first-found, first-iff      the first refusal of several; there is
---     none exactly when no part has one
+--     orElse-pass, orElse-stop, orElse-iff      the first refusal of two answers; there is none exactly when neither has one
+--     first-zero, first-suc, first-found, first-iff      the same of several
 --     answered-all, orElse-all, first-all      what holds of every part holds of the first refusal
 -- Assumes nothing.
 use Prim.Native.Nat.{ℕ, zero, suc, _+_, _≤_, _<_}

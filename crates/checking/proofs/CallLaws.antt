@@ -20,6 +20,7 @@ use Rattle.checking.proofs.AnswerLaws.{orElse-pass, orElse-stop, orElse
 use Rattle.checking.proofs.PassesLaws.{checked-iff}
 use Rattle.checking.proofs.RangeLaws.{checked-total, checked-range}
 
+-- what its own rule answers, and what the call answers
 abbrev own : (rule : Bool) (number total : ℕ) → Answer
 own rule number total = cond rule (accepted total) (refused number 3)
 

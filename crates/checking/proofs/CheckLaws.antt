@@ -1,4 +1,5 @@
--- The check's two loops follow `checked`: one law for a turn of each loop, and one for each way out. Assumes nothing.
+-- The check's two loops follow `checked`: one law for a turn of each loop, and one for each way out. Before them, that an answer which is
+-- `checked` meets the contract (`met`), and how large the discount factor is (`discount-small`). Assumes nothing.
 use Prim.Native.Nat.{ℕ, _+_, _≤_, _<_}
 use mathlib.Core.Path.{_≡_, sym, _∙_}
 use mathlib.Core.List.{List}
@@ -13,7 +14,7 @@ use Rattle.checking.specs.declared.Answer.{Answer}
 use Rattle.checking.proofs.AnswerLaws.{first-suc, first-found, answered-some, orElse-stop}
 use Rattle.checking.proofs.PassesLaws.{header-iff, checked-iff}
 
--- what is shown of an answer a, which is b
+-- an answer a, which is b, is that of `checked`, and it accepts exactly the sheets that pass
 pub met : (s : List ℕ) (a b : Answer) → a ≡ b → b ≡ checked s → (a ≡ checked s) × ((a .number ≡ 0) ↔ Passes s)
 met s a b p q = (p ∙ q, rw (p ∙ q) (checked-iff s))
 

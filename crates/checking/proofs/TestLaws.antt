@@ -1,4 +1,4 @@
--- A test and what it means: each law says that a test is true exactly when the fact holds. Assumes nothing.
+-- A test and what it means: a law `-iff` says that a test is true exactly when the fact holds. Assumes nothing.
 use Prim.Native.Nat.{ℕ, _≤_, _<_}
 use mathlib.Core.Path.{_≡_, refl, sym, subst}
 use mathlib.Core.Bool.{Bool, true, false, _&&_, _||_, false≢true}
@@ -8,6 +8,7 @@ use lib.IntN.{ℤ}
 use lib.Signed.{leZ, _≤ℤ_}
 use borrow.Author.Tests.{leb-true, ltb-true, eqb-true, le-leb, lt-ltb, eq-eqb}
 
+-- what follows from either outcome of a test
 pub by-test : {P : Type 0} (test : Bool) → (test ≡ true → P) → (test ≡ false → P) → P
 by-test true f g = f refl
 by-test false f g = g refl

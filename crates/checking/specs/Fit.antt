@@ -39,6 +39,7 @@ pub record TermsFit (discount : ℕ) (t : Terms) : Type 0 where
   pub electricity : FlowFits discount (t .electricity)
   pub overhauls : OverhaulsFit discount (t .overhauls)
 
+-- a whole sheet
 pub record Fit (p : Sheet) : Type 0 where
   pub horizonLow : 1 ≤ p .horizon
   pub horizonHigh : p .horizon ≤ 300

@@ -38,8 +38,8 @@ pub fn refused(number: u8, option: u8) -> Answer
     }
 }
 
-// The first refusal of a sheet: 1 to 4, then option by option and, inside one, overhaul by overhaul. A field is read where it is tested, so
-// that nothing is stored.
+// The first refusal of a sheet: 1 to 4, then option by option and, inside one, overhaul by overhaul, each of which is read where it is
+// tested.
 pub fn check(sheet: &[u8]) -> Answer
     ensures answer { λ r. ⌜ r ≡ checked (now (sheet .entry)) ⌝ }
     ensures accepted { λ r. ⌜ (r .number ≡ 0) ↔ Passes (now (sheet .entry)) ⌝ }

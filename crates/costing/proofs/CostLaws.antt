@@ -1,5 +1,6 @@
--- What `costed` answers: the ways in which `cost` ends, when it accepts, and the range of its answer. Assumes nothing.
-use Prim.Native.Nat.{ℕ, _+_, _-_, _<_}
+-- What `costed` answers: the ways in which `cost` ends, when it accepts (`costed-iff`), how near the arc's payments and its cost then are to
+-- the exact values (`payments-near`, `costed-near`), and the range of the answer. Assumes nothing.
+use Prim.Native.Nat.{ℕ, _+_, _<_}
 use mathlib.Core.Path.{_≡_}
 use mathlib.Core.List.{List}
 use mathlib.Core.Bool.{Bool, true, false}
@@ -12,7 +13,7 @@ use Rattle.checking.specs.Passes.{Passes}
 use Rattle.checking.specs.declared.Answer.{Answer}
 use Rattle.checking.proofs.CallLaws.{call-refused, call-stopped, call-passed, call-iff, call-total, call-range, call-lt}
 use Rattle.checking.proofs.FitLaws.{fit}
-use Rattle.costing.specs.Lists.{total, Every}
+use Rattle.costing.specs.Lists.{Every}
 use Rattle.costing.specs.Arc.{arcOf, payments, cost}
 use Rattle.costing.specs.Offered.{offered, Offered}
 use Rattle.costing.specs.Costing.{costing, costed}

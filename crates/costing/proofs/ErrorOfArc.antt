@@ -22,6 +22,7 @@ use Rattle.costing.specs.Arc.{overhaulsBelow, paid, payments, cost, exac
 use Rattle.costing.specs.Walk.{atAge, overhaulsAt, added, walked}
 use Rattle.costing.specs.Error.{NearBy, halves, PaymentNear, allowance, WithinAllowance}
 use Rattle.costing.specs.Fit.{KeptFits}
+use Rattle.costing.proofs.ListsLaws.{every-map, every-append}
 use Rattle.costing.proofs.SumLaws.{forEach-zero, forEach-suc, forEach-none, when-true, when-false}
 use Rattle.costing.proofs.SumLaws.{added-total, walked-zero, walked-suc, walked-paid, paid-zero}
 use Rattle.costing.proofs.ErrorOfPayment.{Sound, payment-error, total-error}
@@ -31,19 +32,11 @@ pub record ArcFits (a : Arc) : Type 0 where
   pub kept : KeptFits (a .kept)
   pub inside : a .kept .from + a .years ≤ a .horizon
 
-every-map : (S R : Payment → Type 0) → ((p : Payment) → S p → R p) → (ps : List Payment) → Every S ps → Every R ps
-every-map S R f [] h = tt
-every-map S R f (p ∷ ps) h = (f p (h .0), every-map S R f ps (h .1))
-
 module _ (S : Payment → Type 0) where
-  every-append : (ps qs : List Payment) → Every S ps → Every S qs → Every S (ps ++ qs)
-  every-append [] qs h k = k
-  every-append (p ∷ ps) qs h k = (h .0, every-append ps qs (h .1) k)
-
   every-forEach : (n : ℕ) (f : ℕ → List Payment) → ((j : ℕ) → j < n → Every S (f j)) → Every S (forEach n f)
   unfolding forEach
   every-forEach zero f h = tt
-  every-forEach (suc n) f h = every-append (forEach n f) (f n) (every-forEach n f (λ j l. h j (omega arith))) (h n (omega arith))
+  every-forEach (suc n) f h = every-append S (forEach n f) (f n) (every-forEach n f (λ j l. h j (omega arith))) (h n (omega arith))
 
   every-when : (test : Bool) (p : Payment) → (test ≡ true → S p) → Every S (when test p)
   unfolding when

@@ -29,20 +29,20 @@ abbrev pub Adds : ℕ → (ℕ → ℕ) → (Fraction → Fraction) → Type 0
 Adds h step exactStep = (a : ℕ) (x : Fraction) (w : ℕ) → NearBy a x w → NearBy (step a) (exactStep x) (w + h)
 
 -- the two allowances above under the limits, for w halves over a denominator P
-plain-room : (grow discount w P : ℕ) → grow ≤ discount → w * P * grow + P * discount ≤ (w + 1) * (P * discount)
-plain-room grow discount w P grown = omega (arith, mul-le-mul-left (w * P) grown)
+plain-halves-le : (grow discount w P : ℕ) → grow ≤ discount → w * P * grow + P * discount ≤ (w + 1) * (P * discount)
+plain-halves-le grow discount w P grown = omega (arith, mul-le-mul-left (w * P) grown)
 
-inService-room :
+inService-halves-le :
     (grow age discount w P m : ℕ) → grow ≤ discount → grow * age ≤ m * discount
     → (w * P * age + P * m) * grow + P * m * discount ≤ (w + 2) * (P * m * discount)
-inService-room grow age discount w P m grown product =
+inService-halves-le grow age discount w P m grown product =
     omega (arith, mul-le-mul-left (w * P) product, mul-le-mul-left (P * m) grown)
 
 -- at most one half more
 pub plain-halves : (grow discount : ℕ) → 0 < discount → grow ≤ discount → Adds 1 (plain grow discount) (exactPlain grow discount)
 unfolding exactPlain scaled
 plain-halves grow discount positive grown a x w c =
-    near-weaken (plain-room grow discount w (x .denominator) grown) (plain-error grow discount a x _ positive c)
+    near-weaken (plain-halves-le grow discount w (x .denominator) grown) (plain-error grow discount a x _ positive c)
 
 -- at most two halves more
 pub inService-halves :
@@ -50,5 +50,5 @@ pub inService-halves :
     → Adds 2 (inService grow age discount) (exactInService grow age discount)
 unfolding exactInService exactPlain scaled
 inService-halves grow age discount positive grown product a x w c =
-    near-weaken (inService-room grow age discount w (x .denominator) 1_000_000 grown product)
+    near-weaken (inService-halves-le grow age discount w (x .denominator) 1_000_000 grown product)
     (inService-error grow age discount a x _ positive c)

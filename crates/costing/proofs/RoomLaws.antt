@@ -4,17 +4,17 @@ use Prim.Native.Nat.{ℕ, zero, suc, _+_, _*_, _≤_, _<_}
 use native.Mathlib.Nat.{mul-le-mul, mul-le-mul-left, le-trans, le-of-mul-le-mul-left}
 use native.Mathlib.Omega.{arith}
 use Rattle.costing.specs.Step.{divided, plain, inService, repeated}
-use Rattle.costing.specs.Fit.{PlainFits, ServiceFits}
+use Rattle.costing.specs.Fit.{most, PlainFits, ServiceFits}
 use Rattle.costing.proofs.RoundingLaws.{divided-near, divided-le}
 
 -- the dividends of the two divisions
 pub plain-room : (grow discount a : ℕ) → PlainFits grow discount a → a * grow ≤ 15_000_000_000_000_000_000
 plain-room grow discount a h =
-    let k : a * grow ≤ 10_000_000_000_300 * 1_200_000 = mul-le-mul (h .room) (le-trans (h .grown) (h .high)) in omega arith
+    let k : a * grow ≤ most * 1_200_000 = mul-le-mul (h .room) (le-trans (h .grown) (h .high)) in omega arith
 
 pub age-room : (grow age discount a : ℕ) → ServiceFits grow age discount a → a * age ≤ 15_000_000_000_000_000_000
 age-room grow age discount a h =
-    let k : a * age ≤ 10_000_000_000_300 * 1_300_000 = mul-le-mul (h .plainly .room) (h .aged) in omega arith
+    let k : a * age ≤ most * 1_300_000 = mul-le-mul (h .plainly .room) (h .aged) in omega arith
 
 -- b m ≤ a g + m, so b m f ≤ a f g + m f ≤ a m r + m r
 grown-of : (m a b f g r : ℕ) → 0 < m → b * m ≤ a * g + m → f * g ≤ m * r → f ≤ r → b * f ≤ (a + 1) * r
@@ -45,7 +45,7 @@ pub aged-fits :
     (grow age discount a : ℕ) → ServiceFits grow age discount a → divided (a * age) 1_000_000 * grow ≤ 15_000_000_000_000_000_000
 aged-fits grow age discount a h =
     let p = h .plainly in
-    let k : (a + 1) * discount ≤ 10_000_000_000_301 * 1_200_000 = mul-le-mul {n₂ = 10_000_000_000_301} (omega arith) (p .high) in
+    let k : (a + 1) * discount ≤ (most + 1) * 1_200_000 = mul-le-mul {n₂ = most + 1} (omega arith) (p .high) in
     let room = aged-room grow age discount (omega arith) (p .grown) (h .product) a in
     omega arith
 

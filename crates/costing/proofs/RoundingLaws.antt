@@ -1,9 +1,8 @@
 -- Laws of `divided`, for every dividend and every positive divisor. No other file of laws unfolds it, but for the cases.
--- In order: how far it lies from the quotient, above and below; a bound; what the code computes; order; a whole number of units more.
--- Assumes nothing.
+-- In order: how far it lies from the quotient, above and below; a bound; what the code computes. Assumes nothing.
 use Prim.Native.Nat.{ℕ, _+_, _*_, _/_, _≤_, _<_}
 use mathlib.Core.Path.{_≡_, ap, sym, _∙_}
-use native.Mathlib.Nat.{div-mul-le-self, lt-div-mul-add, div-lt-iff-lt-mul, le-div-iff-mul-le, div-div-eq-div-mul, mul-add-div, le-trans, add-mul-div-right}
+use native.Mathlib.Nat.{div-mul-le-self, lt-div-mul-add, div-lt-iff-lt-mul, div-div-eq-div-mul, mul-add-div}
 use native.Mathlib.Omega.{arith}
 use Rattle.costing.specs.Step.{divided, above, below}
 
@@ -37,17 +36,3 @@ module _ (n d : ℕ) (positive : 0 < d) where
   unfolding divided
   divided-computed half e =
       rw e (ap (λ (x : ℕ). x / d) (sym (mul-add-div (omega arith) n d)) ∙ div-div-eq-div-mul (2 * n + d) 2 d)
-
-pub divided-mono : (n m d : ℕ) → 0 < d → n ≤ m → divided n d ≤ divided m d
-unfolding divided
-divided-mono n m d positive h =
-    let p : 0 < 2 * d = omega arith in
-    le-div-iff-mul-le p .1 (le-trans (div-mul-le-self (2 * n + d) (2 * d)) (omega arith))
-
--- m whole units more
-pub divided-shift : (n m d : ℕ) → 0 < d → divided (n + m * d) d ≡ divided n d + m
-unfolding divided
-divided-shift n m d positive =
-    let p : 0 < 2 * d = omega arith in
-    let e : 2 * (n + m * d) + d ≡ 2 * n + d + m * (2 * d) = omega arith in
-    rw e (add-mul-div-right (2 * n + d) m p)

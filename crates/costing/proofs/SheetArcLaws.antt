@@ -1,6 +1,6 @@
--- An arc of a sheet: what the code holds of it (`kept-made`, `kept-read`, `cost-paid`), and what a sheet that passes the checks gives of it: room for
--- its steps (`keptOf-fits`, `kept-fits`), what the laws of the error ask (`arc-fits`), and how large its cost can be (`keptOf-room`, `cost-le`).
--- Assumes nothing.
+-- An arc of a sheet: what the code holds of it (`kept-made`, `kept-read`, `cost-paid`), and what a sheet that passes the checks gives of it:
+-- room for its steps (`keptOf-fits`, `kept-fits`), what the laws of the error ask (`arc-fits`), and how large its cost can be
+-- (`keptOf-room`, `cost-le`). Assumes nothing.
 use Prim.Native.Nat.{ℕ, _+_, _-_, _*_, _≤_}
 use mathlib.Core.Path.{_≡_, refl, ap, sym, subst}
 use native.Mathlib.Omega.{arith}
@@ -17,9 +17,12 @@ use Rattle.costing.specs.declared.Kept.{Kept}
 use Rattle.costing.proofs.SizeLaws.{paid-le}
 use Rattle.costing.proofs.ErrorOfArc.{ArcFits}
 
--- the option as the code takes it from a parsed sheet
+-- the option as the code takes it: on terms that it has read, and on those that a parsed sheet holds
+abbrev pub keptOnTerms : Terms → (discount start : ℕ) → Kept
+keptOnTerms terms discount start = record { terms = terms; discount = discount; from = start }
+
 abbrev pub keptOf : Sheet → Terms → (option start : ℕ) → Kept
-keptOf s other option start = record { terms = getD (s .options) option other; discount = s .discount; from = start }
+keptOf s other option start = keptOnTerms (getD (s .options) option other) (s .discount) start
 
 pub keptOf-fits :
     (s : Sheet) → Fit s → (other : Terms) (option start : ℕ) → option ≤ 2 → start ≤ s .horizon → KeptFits (keptOf s other option start)
@@ -39,16 +42,12 @@ pub keptOf-room :
 keptOf-room s fit other option start end known forward inside e =
     rw e (paid-le (keptOf s other option start) (keptOf-fits s fit other option start known (omega arith)) (end - start) (omega arith))
 
--- and from the terms of its record
-abbrev pub keptFrom : Terms → (discount start : ℕ) → Kept
-keptFrom terms discount start = record { terms = terms; discount = discount; from = start }
-
 module _ (p : PlanningSheet) (option start end : ℕ) where
   pub kept-made :
       {terms : Terms} {discount : ℕ} → terms ≡ termsOf (p .option option) → discount ≡ 1_000_000 + p .rate
-      → keptFrom terms discount start ≡ arcOf p option start end .kept
+      → keptOnTerms terms discount start ≡ arcOf p option start end .kept
   unfolding arcOf
-  kept-made t d = λ i. keptFrom (t i) (d i) start
+  kept-made t d = λ i. keptOnTerms (t i) (d i) start
 
   pub kept-read : (s : Sheet) (other : Terms) → s ≡ parsed p → option ≤ 2 → keptOf s other option start ≡ arcOf p option start end .kept
   kept-read s other read known = kept-made (terms-read s p read option other (omega arith)) (discount-read s p read)

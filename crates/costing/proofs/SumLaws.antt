@@ -13,32 +13,16 @@ use Rattle.costing.specs.Payment.{Payment}
 use Rattle.costing.specs.Arc.{investment, maintenance, electricity, ageOf, overhaul, forEach, when, overhaulsBelow, paid}
 use Rattle.costing.specs.Walk.{overhaulsAt, added, walked}
 use Rattle.costing.specs.declared.Kept.{Kept}
+use Rattle.costing.proofs.ListsLaws.{total-append, total-cons, total-one, total-two}
 
 module _ (φ : Payment → ℕ) where
-  pub total-append : (ps qs : List Payment) → total φ (ps ++ qs) ≡ total φ ps + total φ qs
-  unfolding total
-  total-append [] qs = omega arith
-  total-append (p ∷ ps) qs = rw (total-append ps qs) (omega arith)
-
-  pub total-cons : (p : Payment) (ps : List Payment) → total φ (p ∷ ps) ≡ φ p + total φ ps
-  unfolding total
-  total-cons p ps = refl
-
-  pub total-one : (p : Payment) → total φ (p ∷ []) ≡ φ p
-  unfolding total
-  total-one p = add-zero (φ p)
-
-  pub total-two : (p q : Payment) → total φ (p ∷ q ∷ []) ≡ φ p + φ q
-  unfolding total
-  total-two p q = omega arith
-
   pub forEach-zero : (f : ℕ → List Payment) → total φ (forEach 0 f) ≡ 0
   unfolding forEach total
   forEach-zero f = refl
 
   pub forEach-suc : (n : ℕ) (f : ℕ → List Payment) → total φ (forEach (suc n) f) ≡ total φ (forEach n f) + total φ (f n)
   unfolding forEach
-  forEach-suc n f = total-append (forEach n f) (f n)
+  forEach-suc n f = total-append φ (forEach n f) (f n)
 
   -- sums of parts that add up, part by part
   pub forEach-add :
@@ -54,7 +38,7 @@ module _ (φ : Payment → ℕ) where
 
   pub when-true : (p : Payment) → total φ (when true p) ≡ φ p
   unfolding when
-  when-true p = total-one p
+  when-true p = total-one φ p
 
   pub when-false : (p : Payment) → total φ (when false p) ≡ 0
   unfolding when total
@@ -82,16 +66,16 @@ module _ (φ : Payment → ℕ) where
   pub added-total :
       (a : Kept) (n : ℕ) → total φ (added a n) ≡ total φ (overhaulsAt a n) + φ (maintenance a (suc n)) + φ (electricity a (suc n))
   unfolding added
-  added-total a n = rw (total-append, total-two) (omega arith)
+  added-total a n = rw (total-append φ, total-two φ) (omega arith)
 
   pub walked-zero : (a : Kept) → total φ (walked a 0) ≡ φ (investment a)
   unfolding walked
-  walked-zero a = rw (total-cons, forEach-zero) (add-zero _)
+  walked-zero a = rw (total-cons φ, forEach-zero) (add-zero _)
 
   pub walked-suc : (a : Kept) (n : ℕ) → total φ (walked a (suc n)) ≡ total φ (walked a n) + total φ (added a n)
   unfolding walked
   walked-suc a n =
-      let first = total-cons (investment a) in
+      let first = total-cons φ (investment a) in
       omega (arith, first (forEach (suc n) (added a)), first (forEach n (added a)), forEach-suc n (added a))
 
   abbrev parts : Kept → ℕ → ℕ
@@ -102,7 +86,7 @@ module _ (φ : Payment → ℕ) where
   walked-parts : (a : Kept) (n : ℕ) → total φ (walked a n) ≡ parts a n
   walked-parts a zero = rw (walked-zero, below-zero, forEach-zero, forEach-zero) (omega arith)
   walked-parts a (suc n) =
-      rw (walked-suc, added-total, below-next, forEach-suc, forEach-suc, total-one (maintenance a (suc n)), total-one (electricity a (suc n)))
+      rw (walked-suc, added-total, below-next, forEach-suc, forEach-suc, total-one φ (maintenance a (suc n)), total-one φ (electricity a (suc n)))
       (omega (arith, walked-parts a n))
 
   pub paid-zero : (a : Kept) → total φ (paid a 0) ≡ 0
@@ -116,4 +100,4 @@ module _ (φ : Payment → ℕ) where
       let o = overhaulsBelow a (suc n) in
       let m = forEach (suc n) (λ k. maintenance a (suc k) ∷ []) in
       let e = forEach (suc n) (λ k. electricity a (suc k) ∷ []) in
-      rw (walked-parts, total-cons, total-append (o ++ m) e, total-append o m) (omega arith)
+      rw (walked-parts, total-cons φ, total-append φ (o ++ m) e, total-append φ o m) (omega arith)

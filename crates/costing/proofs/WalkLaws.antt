@@ -1,4 +1,5 @@
--- Where a walk stands before its first year, and one year on; a walk of a year or more has paid its arc. Assumes nothing.
+-- Where a walk stands before its first year, and one year on (`walk-zero`, `walk-suc`); a walk of a year or more has paid its arc
+-- (`walk-paid`); and what the overhauls of a year cost, added one by one (`dueBy`). Assumes nothing.
 use Prim.Native.Nat.{ℕ, zero, suc, _+_, _^_, _≤_, _<_}
 use mathlib.Core.Path.{_≡_, refl, ap, sym, _∙_}
 use native.Mathlib.Omega.{arith}

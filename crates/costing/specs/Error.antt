@@ -6,13 +6,13 @@ use Rattle.costing.specs.Exact.{Fraction, unrounded, common}
 use Rattle.costing.specs.Arc.{Arc, exactCost}
 
 -- x lies above y by at most W, counted `side` halves at a time
-abbrev pub Most : (side x y W : ℕ) → Type 0
-Most side x y W = 2 * x ≤ 2 * y + side * W
+abbrev pub ExceedsAtMost : (side x y W : ℕ) → Type 0
+ExceedsAtMost side x y W = 2 * x ≤ 2 * y + side * W
 
 -- a rounded amount lies at most W halves of a unit from a fraction, W counted over the fraction's denominator
 pub record Near (a : ℕ) (x : Fraction) (W : ℕ) : Type 0 where
-  pub high : Most above (a * x .denominator) (x .numerator) W
-  pub low : Most below (x .numerator) (a * x .denominator) W
+  pub high : ExceedsAtMost above (a * x .denominator) (x .numerator) W
+  pub low : ExceedsAtMost below (x .numerator) (a * x .denominator) W
 
 -- the same for w halves of a unit, whatever the denominator
 abbrev pub NearBy : (a : ℕ) (x : Fraction) (w : ℕ) → Type 0

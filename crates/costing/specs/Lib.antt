@@ -1,3 +1,5 @@
+-- The definitions of costing, in reading order: one year's step and payments; arcs; what costing answers, and its error; what the code asks
+-- and where it stands; the cases.
 pub mod Step
 pub mod Lists
 pub mod Payment

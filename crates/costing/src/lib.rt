@@ -40,7 +40,7 @@ pub struct Walk {
     pub years: u64,
 }
 
-// The cost of an arc of a sheet that passes the checks.
+// The cost of an arc of a parsed sheet that passes the checks: for the crates above, which parse a sheet once for many arcs.
 pub fn arc_cost(sheet: Sheet, option: u64, start: u64, end: u64) -> Units
     requires { ⌜ Fit sheet × (option ≤ 2) × (start ≤ end) × (end ≤ sheet .horizon) ⌝ }
     ensures units { λ r. ⌜ ((p : PlanningSheet) → sheet ≡ parsed p → r .0 ≡ cost (arcOf p option start end)) ⌝ }
@@ -55,7 +55,7 @@ pub fn arc_cost(sheet: Sheet, option: u64, start: u64, end: u64) -> Units
     kept.cost(Divisor::of(sheet.discount), end - start)
 }
 
-// The same, of a sheet in bytes that offers the arc: of the three records only the option's is read.
+// The same of a sheet in bytes that offers the arc: for `cost`, which has one arc and reads only its option's record.
 fn arc_on(sheet: &[u8], option: u64, start: u64, end: u64) -> Units
     requires { ⌜ Passes (now sheet) × Offered (sheetOf (now sheet)) option start end ⌝ }
     ensures { λ r. ⌜ r .0 ≡ cost (arcOf (sheetOf (now (sheet .entry))) option start end) ⌝ }

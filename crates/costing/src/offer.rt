@@ -22,7 +22,7 @@ fn length_offered(shortest: u64, longest: u64, option: u64, n: u64) -> bool
     ((1 <= n) & (shortest <= n) & (n <= longest)) | ((n == 0) & (option <= 1))
 }
 
-// Whether the sheet offers the arc: a parsed sheet, and one in bytes.
+// Whether a parsed sheet offers the arc: for the crates above, which parse a sheet once for many arcs.
 pub fn offered(sheet: Sheet, option: u64, start: u64, end: u64) -> bool
     ensures { λ b. ⌜ ((p : PlanningSheet) → sheet ≡ parsed p → b ≡ offered p option start end) ⌝ }
 {
@@ -33,6 +33,7 @@ pub fn offered(sheet: Sheet, option: u64, start: u64, end: u64) -> bool
     length_offered(terms.shortest, terms.longest, option, end - start)
 }
 
+// The same of a sheet in bytes: for `cost`, which has one arc and reads only its option's record.
 pub fn offered_on(sheet: &[u8], option: u64, start: u64, end: u64) -> bool
     requires { ⌜ length (now sheet) ≡ sheetLength ⌝ }
     ensures { λ b. ⌜ b ≡ offered (sheetOf (now (sheet .entry))) option start end ⌝ }

@@ -1,7 +1,7 @@
 // One year's step: document 01, 'One year's step'. A rate is given by its factor in millionths; the discount factor as a divisor.
 
 ghost use mathlib.Core.Path.{_≡_};
-ghost use Prim.Native.Nat.{_*_, _<_, _≤_};
+ghost use Prim.Native.Nat.{_<_, _≤_};
 ghost use Rattle.costing.specs.Step.{divided, plain, inService, repeated};
 ghost use Rattle.costing.specs.Fit.{PlainFits, ServiceFits};
 ghost use Rattle.division.specs.Division.{Ready};

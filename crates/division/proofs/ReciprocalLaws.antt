@@ -9,6 +9,8 @@ use native.Mathlib.Nat.{add-zero, mul-le-mul, mul-le-mul-left, mul-le-mul-right,
 use Rattle.division.specs.declared.Divisor.{Divisor}
 use Rattle.division.specs.Division.{Above, Below, Ready}
 
+-- the figures of `Divisor::of`: 2^51 − 1 over the divisor and its rest; that rest with 32 bits more, over the divisor, and what is left;
+-- both quotients as one number
 abbrev pub highOf : ℕ → ℕ
 highOf by = (2 ^ 51 - 1) / by
 

@@ -7,7 +7,7 @@ use native.Mathlib.Omega.{arith}
 use lib.ListN.{getD}
 use Rattle.sheet.specs.Layout.{u16At, u32At}
 
--- the two bytes of a u16, the four of a u32
+-- a u16 is 0 exactly when its two bytes are, a u32 exactly when its four are
 pub u16-zero-iff : (s : List ℕ) (at : ℕ) → (u16At s at ≡ 0) ↔ ((getD s at 0 ≡ 0) × (getD s (at + 1) 0 ≡ 0))
 unfolding u16At
 u16-zero-iff s at = (λ e. omega arith, λ e. omega arith)

@@ -1,5 +1,5 @@
--- Laws of `Parsed.antt`: what stands at an index of the code's lists, and what a parsed sheet holds of document 01's record.
--- Assumes nothing.
+-- Laws of `Parsed.antt`: what stands at an index of the code's lists (`getD-listed`, `getD-options`), and what a parsed sheet holds of
+-- document 01's (`horizon-read`, `discount-read`, `terms-read`). Then, of `Sheet.antt`: an investment does not age. Assumes nothing.
 use Prim.Native.Nat.{ℕ, zero, suc, _+_, _<_}
 use mathlib.Core.Path.{_≡_, refl, ap}
 use mathlib.Core.List.{List}

@@ -1,3 +1,4 @@
+-- The definitions of sheet, in reading order: bytes, the sheet of document 01, and how the code holds it.
 pub mod Layout
 pub mod Sheet
 pub mod Parsed

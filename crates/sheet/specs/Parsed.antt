@@ -45,6 +45,6 @@ parsed p =
       options = listed 3 (λ k. termsOf (p .option k));
     }
 
--- the parsed form of some record
+-- the parsed form of some planning sheet
 abbrev pub IsParsed : Sheet → Type 0
 IsParsed s = (p : PlanningSheet) × (s ≡ parsed p)

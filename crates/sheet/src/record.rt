@@ -11,6 +11,7 @@ use crate::Overhauls;
 use crate::Terms;
 use crate::fields;
 
+// An amount with its inflation, paid once: it has no ageing.
 fn once_at(s: &[u8], at: usize) -> Flow
     requires { ⌜ at + 8 ≤ length (now s) ⌝ }
     ensures { λ r. ⌜ r ≡ flowOf (onceAt (now (s .entry)) at) ⌝ }
@@ -18,10 +19,11 @@ fn once_at(s: &[u8], at: usize) -> Flow
     Flow {
         amount: fields::u32_at(s, at),
         grow: fields::factor_at(s, at + 4),
-        age: 1000000,
+        age: 1_000_000,
     }
 }
 
+// An amount with its inflation and its ageing.
 fn flow_at(s: &[u8], at: usize) -> Flow
     requires { ⌜ at + 12 ≤ length (now s) ⌝ }
     ensures { λ r. ⌜ r ≡ flowOf (expenseAt (now (s .entry)) at) ⌝ }
@@ -33,6 +35,7 @@ fn flow_at(s: &[u8], at: usize) -> Flow
     }
 }
 
+// The ages of the eight overhauls of the record at `at`, their amounts, and all that it says of overhauls.
 fn ages_at(s: &[u8], at: usize) -> [u64; 8]
     requires { ⌜ at + recordLength ≤ length (now s) ⌝ }
     ensures { λ r. ⌜ r ≡ listed 8 (λ j. optionAt (now (s .entry)) at .overhaul j .age) ⌝ }

@@ -1,11 +1,10 @@
-// The bytes of a plan are written, into the front of a lent buffer: document 01, 'Feasible chains', its last paragraph.
+// Writes the bytes of a plan to the front of a lent buffer: document 01, 'Feasible chains', its last paragraph.
 // Nothing here is a public call: `write_plan` serves the crate above, which meets what it requires.
 
 ghost use mathlib.Core.Path.{_≡_};
 ghost use Prim.Native.Nat.{_+_, _*_, _≤_};
 ghost use lib.ListN.{length, take};
 ghost use lib.Seq.{sets};
-ghost use Rattle.chain.specs.Chain.{Chain};
 ghost use Rattle.chain.specs.PlanBytes.{bytes, header, endBytes, encode};
 
 // Writes a number in that many bytes, the lowest first, from a place on.

@@ -5,7 +5,7 @@ use Rattle.sheet.specs.Sheet.{sheetOf}
 use Rattle.checking.proofs.FitLaws.{fit}
 use Rattle.costing.specs.Arc.{arcOf}
 use Rattle.costing.specs.Fit.{KeptFits}
-use Rattle.costing.proofs.SheetArcLaws.{keptFrom, kept-made, kept-fits, cost-paid}
+use Rattle.costing.proofs.SheetArcLaws.{keptOnTerms, kept-made, kept-fits, cost-paid}
 use borrow.Author.Needs.{needs}
 use Rattle.costing.proofs.arc_on.Statement.{statement}
 use Rattle.costing.proofs.arc_on.Tie as tie
@@ -14,7 +14,7 @@ use Rattle.costing.proofs.arc_on.Tie as tie
 made :
     (c : tie.After-discount-of) →
     let a = c .before .before .before .args in
-    keptFrom (c .before .terms-of .result) (c .discount-of .result) (a .start) ≡ arcOf (sheetOf (a .sheet .now)) (a .option) (a .start) (a .end) .kept
+    keptOnTerms (c .before .terms-of .result) (c .discount-of .result) (a .start) ≡ arcOf (sheetOf (a .sheet .now)) (a .option) (a .start) (a .end) .kept
 made c = kept-made _ _ _ _ (c .before .terms-of .ensures) (c .discount-of .ensures)
 
 terms-of-requires : tie.Need-terms-of-requires

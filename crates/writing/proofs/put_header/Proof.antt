@@ -32,7 +32,6 @@ put-requires : tie.Need-put-requires
 put-requires c κs = simp length-set (omega arith)
 
 -- the buffer keeps its room from field to field
-
 room : (c : tie.After-put) → 19 ≤ length (c .put .last .0)
 room c = rw (c .put .kept .0) (simp length-set (omega arith))
 
