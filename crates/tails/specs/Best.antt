@@ -38,9 +38,13 @@ mayEnd a e = leb (a .terms .shortest) (e - a .from) && leb (e - a .from) (a .ter
 abbrev pub keptCost : Kept → ℕ → ℕ
 keptCost a e = worth a (paid a (e - a .from))
 
--- the choice so far after the ends of an option that is kept, up to T
+-- the choice so far after the ends of an option that is kept, in the first n years after its start
+abbrev pub bestAfter : Kept → (words : ℕ → ℕ) → Best → (n : ℕ) → Best
+bestAfter a words best n = bestOver (mayEnd a) (keptCost a) words (a .from + 1) best n
+
+-- up to T
 abbrev pub bestTo : Kept → (T : ℕ) (words : ℕ → ℕ) → Best → Best
-bestTo a T words best = bestOver (mayEnd a) (keptCost a) words (a .from + 1) best (T - a .from)
+bestTo a T words best = bestAfter a words best (T - a .from)
 
 -- the same option, kept from another year
 abbrev pub keptFrom : Kept → ℕ → Kept
