@@ -1,5 +1,6 @@
 -- The ends of an option that is kept, on its terms: which the code weighs (`end-test`, `ends-all`), what the arc to an end costs (`end-cost`,
--- `end-paid`), and that its sum with a word leaves room (`end-room`). Assumes nothing.
+-- `end-paid`), and that its sum with a word leaves room (`end-room`). And the terms that are read past the last option (`noTerms`). Assumes
+-- nothing.
 use Prim.Native.Nat.{ℕ, _+_, _-_, _*_, _≤_, _<_, min}
 use mathlib.Core.Path.{_≡_, ap, sym, _∙_}
 use mathlib.Core.List.{[]}

@@ -1,5 +1,5 @@
 -- The running choice on the numbers that the code keeps: a least total and the first end of the list that has it. `BestLaws.antt` shows that
--- it follows the choice of entries. Definitions only.
+-- it follows the choice of entries. And what the code makes it by: costs of arcs, words and streams. Definitions only.
 use Prim.Native.Nat.{ℕ, zero, suc, _+_, _-_, _*_, _≤_, _<_}
 use mathlib.Core.Path.{_≡_}
 use mathlib.Core.Bool.{Bool, cond, _&&_}
