@@ -6,10 +6,19 @@ pub mod document;
 pub mod paper;
 pub mod show;
 
-fn low(value: u64) -> u8 {
+// Where the record of each option starts.
+pub const MAINTAIN: usize = 11;
+
+pub const RENOVATE: usize = 100;
+
+pub const REPLACE: usize = 189;
+
+// The lowest byte of a value.
+pub fn low(value: u64) -> u8 {
     (value % 256) as u8
 }
 
+// A field set at a place: of one byte, of two or of four.
 pub fn put8(sheet: [u8; 278], at: usize, value: u64) -> [u8; 278]
     requires { ⌜ at + 1 ≤ 278 ⌝ }
 {

@@ -1,16 +1,14 @@
 // The paper's case study, Table 1 as a sheet: T 300, r 40,000, and the inflations of every option the same.
 
 ghost use Prim.Native.Nat.{_+_, _≤_};
+use crate::MAINTAIN;
+use crate::RENOVATE;
+use crate::REPLACE;
+use crate::lives;
 use crate::plain;
 use crate::put8;
 use crate::put16;
 use crate::put32;
-
-const MAINTAIN: usize = 11;
-
-const RENOVATE: usize = 100;
-
-const REPLACE: usize = 189;
 
 // What differs from option to option; electricity does not age.
 struct Figures {
@@ -32,8 +30,7 @@ fn inflations(sheet: [u8; 278], at: usize) -> [u8; 278]
 fn with_figures(sheet: [u8; 278], at: usize, f: Figures) -> [u8; 278]
     requires { ⌜ at ≤ 189 ⌝ }
 {
-    let lives = put16(put16(sheet, at, 1), at + 2, f.longest);
-    let once = put32(lives, at + 4, f.investment);
+    let once = put32(lives(sheet, at, 1, f.longest), at + 4, f.investment);
     let yearly = put32(put32(once, at + 12, f.maintenance), at + 20, f.ageing);
     put32(yearly, at + 24, f.electricity)
 }

@@ -2,6 +2,8 @@
 
 ghost use Prim.Native.Nat.{_+_, _≤_};
 use crate::show::answer;
+use case_sheets::MAINTAIN;
+use case_sheets::RENOVATE;
 use case_sheets::plain;
 use case_sheets::put8;
 use case_sheets::put16;
@@ -31,9 +33,9 @@ fn set32(name: &[u8], at: usize, value: u64)
 
 // The lives of the option whose record starts at `at` set.
 fn set_lives(name: &[u8], at: usize, shortest: u64, longest: u64)
-    requires { ⌜ at + 4 ≤ 278 ⌝ }
+    requires { ⌜ at ≤ 189 ⌝ }
 {
-    let sheet = put16(put16(plain(), at, shortest), at + 2, longest);
+    let sheet = case_sheets::lives(plain(), at, shortest, longest);
     answer(name, &sheet);
 }
 
@@ -203,9 +205,9 @@ pub fn rising(at: usize)
 
 // Two faults: a number of maintain comes before one of renovate, a smaller number of one option before a larger, and the header before all.
 pub fn order() {
-    let count = put8(plain(), 140, 9);
-    let investment = put32(count, 15, 1_000_000_001);
-    let lives = put16(count, 100, 1);
+    let count = put8(plain(), RENOVATE + 40, 9);
+    let investment = put32(count, MAINTAIN + 4, 1_000_000_001);
+    let lives = put16(count, RENOVATE, 1);
     let rate = put32(investment, 7, 200_001);
     answer(b"9 of renovate", &count);
     answer(b"9 of renovate, 6 of maintain", &investment);

@@ -3,6 +3,9 @@
 // refusal at every option. The sheet that each case changes: T 300, r 40,000, no option offered, every other field 0.
 
 ghost use Prim.Native.Nat.{_≤_};
+use case_sheets::MAINTAIN;
+use case_sheets::RENOVATE;
+use case_sheets::REPLACE;
 
 mod cases;
 mod show;
@@ -10,9 +13,9 @@ mod show;
 fn main() {
     cases::lengths();
     cases::header();
-    record(11);
-    record(100);
-    record(189);
+    record(MAINTAIN);
+    record(RENOVATE);
+    record(REPLACE);
     cases::order();
 }
 

@@ -1,5 +1,7 @@
 // A case's line: its name, then `accepted` or `refused` with the number and the option.
 
+use case_sheets::show::number;
+
 const OUT: i32 = 1;
 
 pub fn answer(name: &[u8], sheet: &[u8]) {
@@ -9,9 +11,8 @@ pub fn answer(name: &[u8], sheet: &[u8]) {
         io::write_all(OUT, b": accepted\n");
         return;
     }
-    io::write_all(OUT, b": refused ");
-    io::print_decimal(OUT, a.number as u64);
-    io::write_all(OUT, b" ");
-    io::print_decimal(OUT, a.option as u64);
+    io::write_all(OUT, b": refused");
+    number(a.number as u64);
+    number(a.option as u64);
     io::write_all(OUT, b"\n");
 }

@@ -1,5 +1,6 @@
 -- Laws of `Holds`: the entry of a set has the total 2^64 − 1 exactly when the set is empty (`holds-none`), and then it is the entry of none
--- (`holds-noEntry`); else it has the chosen list and its weight (`holds-chosen`). Assumes nothing.
+-- (`holds-noEntry`); else it has the chosen list and its weight (`holds-chosen`). No list of the set weighs less than its total
+-- (`holds-least`), and it depends only on which lists are in the set and on their weights (`holds-same`). Assumes nothing.
 use Prim.Native.Nat.{ℕ, _≤_, _<_}
 use mathlib.Core.Path.{_≡_}
 use mathlib.Core.List.{List}

@@ -1,6 +1,6 @@
--- Laws of the running choice: what `weigh` does in each of its cases; and `over`, which takes one end more at the last end (`over-offered`,
--- `over-passed`) or at the first (`over-first`, `over-start`), reads only the ends that are offered (`over-same`), and has taken one of them or
--- is the choice that it began with (`over-taken`). Assumes nothing.
+-- Laws of the running choice: what `weigh` does in each of its cases (`weigh-none`, `weigh-take`, `weigh-keep`); and `over`, which weighs no end
+-- (`over-zero`), one end more at the last end (`over-offered`, `over-passed`) or at the first (`over-first`, `over-start`), reads only the ends
+-- that are offered (`over-same`), and has taken one of them or is the choice that it began with (`over-taken`). Assumes nothing.
 use Prim.Native.Nat.{ℕ, zero, suc, _+_, _≤_, _<_}
 use mathlib.Core.Path.{_≡_, refl, sym, _∙_}
 use mathlib.Core.Bool.{Bool, true, false, cond, Bool-discrete, not-eq-not, false≢true}

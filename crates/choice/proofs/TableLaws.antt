@@ -1,5 +1,6 @@
--- Laws of `table` and `entry`: a table has the entries in the years' order (`table-cons`). Where the rule reads only later years, a year's
--- entry is what the rule gives by the entries (`entry-step`), and induction from T down holds (`every-year`). Assumes nothing.
+-- Laws of `table` and `entry`: a table has the entries in the years' order (`table-last`, `table-cons`, `table-length`), and at T nothing is
+-- left (`entry-last`). Where the rule reads only later years, a year's entry is what the rule gives by the entries (`entry-step`), and
+-- induction from T down holds (`every-year`). Assumes nothing.
 use Prim.Native.Nat.{ℕ, zero, suc, _+_, _-_, _≤_, _<_}
 use mathlib.Core.Path.{_≡_, refl, sym, _∙_}
 use mathlib.Core.List.{[], _∷_}

@@ -1,6 +1,7 @@
 // Each way into refusal 13 at its limit, on the paper's sheet and on one that offers no option; and refusals 1 to 9, which come first.
 
 use crate::show::answer;
+use case_sheets::REPLACE;
 use case_sheets::paper::sheet;
 use case_sheets::plain;
 use case_sheets::put16;
@@ -53,7 +54,7 @@ fn none() {
 
 fn first() {
     let late = put16(sheet(), 5, 301);
-    let long = put16(sheet(), 191, 121);
+    let long = put16(sheet(), REPLACE + 2, 121);
     answer(b"no bytes", b"", 3, 0, 1);
     answer(b"T 301", &late, 3, 0, 1);
     answer(b"life 121", &long, 3, 0, 1);

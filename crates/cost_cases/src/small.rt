@@ -1,16 +1,16 @@
 // Cases 6 to 8: replace, T = 3, lives 1 to 2, r 40,000, investment 1, maintenance 1, and an overhaul of 1 at age 1 in the last two.
 
 use crate::show::answer;
+use case_sheets::REPLACE;
+use case_sheets::lives;
 use case_sheets::plain;
 use case_sheets::put8;
 use case_sheets::put16;
 use case_sheets::put32;
 
-const REPLACE: usize = 189;
-
 fn sheet() -> [u8; 278] {
-    let lives = put16(put16(put16(plain(), 5, 3), REPLACE, 1), REPLACE + 2, 2);
-    put32(put32(lives, REPLACE + 4, 1), REPLACE + 12, 1)
+    let replacing = lives(put16(plain(), 5, 3), REPLACE, 1, 2);
+    put32(put32(replacing, REPLACE + 4, 1), REPLACE + 12, 1)
 }
 
 fn overhauled() -> [u8; 278] {

@@ -1,17 +1,17 @@
 -- The choice of the end of maintaining or renovating on the terms of the option is the one that the rules give (`kept-best`): by the lent words
 -- it is that of renovating (`renovated-best`), by the totals of renovating that of maintaining (`planned-best`). What the choice of an end asks
 -- holds with what is lent (`lent-asks`). Assumes nothing.
-use Prim.Native.Nat.{ℕ, suc, _+_, _-_, _≤_, _<_}
-use mathlib.Core.Path.{subst, _≡_, refl, ap, sym, _∙_}
+use Prim.Native.Nat.{ℕ, suc, _-_, _≤_, _<_}
+use mathlib.Core.Path.{_≡_, refl, ap, sym, subst, _∙_}
 use mathlib.Core.Bool.{true}
 use mathlib.Core.List.{List}
 use mathlib.Core.Logic.{_⊎_, inl, inr, ⊎-elim}
 use native.Mathlib.Nat.{add-zero, le-refl}
 use native.Mathlib.Numerals.{add-one}
 use native.Mathlib.Omega.{arith}
-use Rattle.sheet.specs.Sheet.{PlanningSheet}
 use lib.ListN.{length}
 use Rattle.division.specs.declared.Divisor.{Divisor}
+use Rattle.sheet.specs.Sheet.{PlanningSheet}
 use Rattle.sheet.specs.Parsed.{parsed, IsParsed}
 use Rattle.sheet.specs.declared.Sheet.{Sheet}
 use Rattle.sheet.specs.declared.Terms.{Terms}
@@ -26,7 +26,7 @@ use Rattle.streams.specs.Streams.{Streams}
 use Rattle.choice.specs.Running.{Entry, noEntry, weigh, over}
 use Rattle.choice.proofs.RunningLaws.{over-zero, over-offered, over-first}
 use Rattle.tails.specs.Tail.{costTo, bestEnd, tail}
-use Rattle.tails.specs.Best.{shown, weighed, bestOver, mayEnd, keptCost, wordOf, WordsFit, Lent}
+use Rattle.tails.specs.Best.{shown, weighed, bestTo, wordOf, WordsFit, Lent}
 use Rattle.tails.specs.declared.Best.{Best}
 use Rattle.tails.proofs.BestLaws.{weigh-shown}
 use Rattle.tails.proofs.EndLaws.{noTerms}
@@ -74,7 +74,7 @@ module _ (p : PlanningSheet) (fit : Fit (parsed p)) (option y : ℕ) (may : opti
           let first = weigh noEntry 0 y (behind y) in
           let start : weighed (shown noEntry) 0 y (words y) ≡ shown first =
           ap (weighed (shown noEntry) 0 y) (held y at-once) ∙ weigh-shown noEntry 0 y (behind y) in
-          ap (λ (best : Best). bestOver (mayEnd a) (keptCost a) words (y + 1) best n) start
+          ap (bestTo a (p .horizon) words) start
           ∙ ends-over p option y a (λ e. kept-read p option y e s other read (omega arith)) words behind first well (λ e l m on. held e on)
           ∙ ap shown
           (ap (λ (z : ℕ). over (offered p option y) (costTo p option y) behind z first n) (add-one y)

@@ -1,6 +1,6 @@
--- The planned chain is the one that document 01 asks: there is none exactly when no chain is feasible (`planned-none`), else it is the chosen
--- one, and its rounded total is the total (`planned-chosen`); no feasible chain has a smaller one (`chosen-chain-le`), and there is at most one
--- chosen chain (`chosen-chain-only`). Assumes nothing.
+-- The planned chain is the one that document 01 asks: there is none exactly when no chain is feasible (`planned-none`, `planned-noEntry`), else
+-- it is the chosen one, and its rounded total is the total (`planned-chosen`); no feasible chain has a smaller one (`chosen-chain-le`), and
+-- there is at most one chosen chain (`chosen-chain-only`). The totals of renovating leave room (`renovated-le`). Assumes nothing.
 use Prim.Native.Nat.{ℕ, _-_, _*_, _≤_}
 use mathlib.Core.Path.{_≡_, refl, ap, sym, subst, _∙_}
 use mathlib.Core.List.{List, [], _∷_}

@@ -18,6 +18,7 @@ use sheet::Sheet;
 use tails::lending;
 use tails::weighing;
 
+// The larger of two numbers.
 fn most(a: u64, b: u64) -> u64
     ensures { λ r. ⌜ r ≡ max a b ⌝ }
 {

@@ -1,8 +1,8 @@
 // Compares `plan` with a listing of all chains, on small sheets: document 01, 'Acceptance by the buyer's reader'. The sheets are drawn by a
 // generator of this program, pass the checks, and have T from 1 to 8. Of each, every feasible chain is listed and priced by the text of
 // document 01, and the one that the tie rule takes is compared with what `plan` answers and writes: number, option, total, plan bytes and
-// words. No code of costing, chain, tails, front or of planner's own search is used. The file `stdout` beside `src` has the lines expected;
-// each difference prints a line of its own.
+// words. The listing shares no code with the library. The file `stdout` beside `src` has the lines expected; each difference prints a line of
+// its own.
 
 mod arcs;
 mod bytes;

@@ -1,1 +1,2 @@
+-- The laws of nimovalsa.
 pub mod PackedLaws

@@ -1,1 +1,2 @@
+-- The definitions of nimovalsa.
 pub mod Packed

@@ -1,5 +1,5 @@
--- What the code has found is the planned chain: how it begins, and the ends that were followed from there (`found-read`), by the words that
--- have been written (`tails-lent`, `firsts-lent`). Assumes nothing.
+-- What the code has found is the planned chain: how it begins, and the ends that were followed from there (`found-read`), as many as the chain
+-- has (`found-count`) and the list holds (`found-few`), by the words that have been written (`tails-lent`, `firsts-lent`). Assumes nothing.
 use Prim.Native.Nat.{ℕ, _+_, _≤_}
 use mathlib.Core.Path.{_≡_, ap, sym, _∙_}
 use mathlib.Core.List.{List}
@@ -40,17 +40,17 @@ module _ (p : PlanningSheet) (f : Front) (read : f ≡ front (planned p)) (there
 -- once they are written, the words have the totals of replacements from each year, and the end of the first of them
 module _ (s : Sheet) (far : s .horizon ≤ 300) (before after : List ℕ) (room : 602 ≤ length before) (same : length after ≡ length before)
     (lent : (p : PlanningSheet) → s ≡ parsed p → after ≡ tailWords p before) where
-  words-lent :
+  lent-read :
       (p : PlanningSheet) → s ≡ parsed p → (y : ℕ) → y ≤ p .horizon
       → (getD after y 0 ≡ tail p y .total) × (getD after (301 + y) 0 ≡ firstEnd (tail p y))
-  words-lent p read y l = rw (lent p read) (tail-words-read p before (omega (arith, horizon-read s p read)) room y l)
+  lent-read p read y l = rw (lent p read) (tail-words-read p before (omega (arith, horizon-read s p read)) room y l)
 
   pub tails-lent : TailsLent s after
-  tails-lent = record { room = omega arith; totals = λ p read y l. words-lent p read y l .0 }
+  tails-lent = record { room = omega arith; totals = λ p read y l. lent-read p read y l .0 }
 
   pub firsts-lent : FirstsLent s (drop 301 after)
   firsts-lent =
       record {
         room = simp length-drop (omega arith);
-        held = λ p read y l. getD-drop 301 after y 0 ∙ words-lent p read y l .1;
+        held = λ p read y l. getD-drop 301 after y 0 ∙ lent-read p read y l .1;
       }

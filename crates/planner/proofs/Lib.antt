@@ -1,5 +1,5 @@
 -- The laws of planner, in reading order; a file cites only files above it.
---     CaseLaws: document 01's cases 1 to 12, straight from the definitions
+--     CaseLaws: document 01's cases 1 to 12 and further cases, straight from the definitions
 --     PlanningLaws: what planning answers and leaves, way out by way out
 --     FoundLaws: what the code has found is the planned chain
 --     WayLaws: the ways in which planning ends, and which number comes from which

@@ -1,6 +1,6 @@
--- What planning answers and leaves, way out by way out. Where the sheet is at hand: no chain (`planning-none`), a buffer that is too short
--- (`planning-short`), a plan written (`planning-fits`). Of a whole call: refused by the check (`plan-refused`), too few words (`plan-few`),
--- or as the sheet says (`plan-on`), with the words written (`words-lent`). Assumes nothing.
+-- What planning answers and leaves, way out by way out. Where the sheet is at hand (`SheetOutcome`): no chain (`planning-none`), a buffer that is
+-- too short (`planning-short`), a plan written (`planning-fits`). Of a whole call (`Outcome`): refused by the check (`plan-refused`), too few
+-- words (`plan-few`), or as the sheet says (`plan-on`), with the words written (`words-lent`). Assumes nothing.
 use Prim.Native.Nat.{ℕ, _≤_, _<_}
 use mathlib.Core.Path.{_≡_, sym, _∙_}
 use mathlib.Core.Bool.{true, false}
@@ -24,15 +24,15 @@ use Rattle.planner.specs.Planning.{found, planLength, planWith, planning
 
 module _ (p : PlanningSheet) (plan : List ℕ) where
   -- what is answered, and what the plan buffer then holds
-  abbrev pub Ends : Answer → List ℕ → Type 0
-  Ends a plan′ = (a ≡ planning p (length plan)) × (plan′ ≡ planWritten p plan)
+  abbrev pub SheetOutcome : Answer → (plan′ : List ℕ) → Type 0
+  SheetOutcome a plan′ = (a ≡ planning p (length plan)) × (plan′ ≡ planWritten p plan)
 
-  pub planning-none : planned p .total ≡ noTotal → Ends (refused 11 3) plan
+  pub planning-none : planned p .total ≡ noTotal → SheetOutcome (refused 11 3) plan
   unfolding planning planWritten
   planning-none none = let t = eq-eqb (planned p .total) noTotal none in (rw t, rw t)
 
   module _ (there : planned p .total ≡ noTotal → ⊥) where
-    pub planning-short : length plan < planLength (found p) → Ends (refused 12 3) plan
+    pub planning-short : length plan < planLength (found p) → SheetOutcome (refused 12 3) plan
     unfolding planning planWritten
     planning-short l =
         let t = ne-eqb (planned p .total) noTotal there in
@@ -40,7 +40,7 @@ module _ (p : PlanningSheet) (plan : List ℕ) where
         (rw (t, u), rw (t, u))
 
     pub planning-fits :
-        planLength (found p) ≤ length plan → Ends (accepted (planned p .total)) (planWith p plan)
+        planLength (found p) ≤ length plan → SheetOutcome (accepted (planned p .total)) (planWith p plan)
     unfolding planning planWritten
     planning-fits l =
         let t = ne-eqb (planned p .total) noTotal there in

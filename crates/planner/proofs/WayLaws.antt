@@ -1,6 +1,6 @@
 -- The ways in which planning ends (`way`): a faulty sheet, too few words, no chain, a buffer that is too short, a plan written. Each number
--- comes from one of them (`ten-of`, `eleven-of`, `twelve-of`, `done-of`), and where its facts hold it is answered (`ten-when`, `eleven-when`,
--- `twelve-when`, `zero-when`, `ample-when`). Assumes nothing.
+-- comes from one of them (`ten-of`, `eleven-of`, `twelve-of`, `done-of`; that of a faulty sheet is not 0, `fault-some`), and where its facts hold
+-- it is answered (`ten-when`, `eleven-when`, `twelve-when`, `zero-when`, `ample-when`). Assumes nothing.
 use Prim.Native.Nat.{ℕ, _+_, _*_, _≤_, _<_}
 use mathlib.Core.Path.{_≡_, refl, ap, sym, subst, _∙_}
 use mathlib.Core.List.{List}

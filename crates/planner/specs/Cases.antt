@@ -76,7 +76,7 @@ freeSheet shortest0 longest0 shortest1 longest1 shortest2 longest2 =
 
 abbrev pub casesOfPlanning : List Case
 casesOfPlanning =
-    -- a chain of which all totals are 0: the largest i, then the largest j, then the later end
+    -- nothing to pay, so that every total is 0: the largest i, then the largest j, then the later end
     planCase (freeSheet 1 2 1 1 1 1) 23 (accepted 0) (planOf total10 2 3 [] ++ replicate 4 255)
     ∷ planCase (freeSheet 1 1 1 1 1 2) 23 (accepted 0) (planOf total10 1 2 (3 ∷ []) ++ replicate 2 255)
     ∷ planCase (freeSheet 0 0 1 2 1 1) 23 (accepted 0) (planOf total10 0 2 (3 ∷ []) ++ replicate 2 255)

@@ -4,6 +4,7 @@
 use crate::plan::plan;
 use crate::plan::put16;
 use crate::show::answer;
+use case_sheets::REPLACE;
 use case_sheets::paper::sheet;
 
 fn lengths(s: &[u8]) {
@@ -61,7 +62,7 @@ fn none(s: &[u8]) {
 fn first() {
     let p = plan(0, 0, 5, [60, 120, 180, 240, 300, 0]);
     let late = case_sheets::put16(sheet(), 5, 301);
-    let long = case_sheets::put16(sheet(), 191, 121);
+    let long = case_sheets::put16(sheet(), REPLACE + 2, 121);
     answer(b"no sheet", b"", &p[0..29]);
     answer(b"T 301", &late, &p[0..29]);
     answer(b"life 121 and no plan", &long, b"");

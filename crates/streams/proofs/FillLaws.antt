@@ -1,5 +1,6 @@
--- Streams as they are filled: the value of the next year is a plain step on (`once-zero`, `once-suc`), one value written more (`stream-next`),
--- one stream more (`streams-next`), and streams that lie before what is written stay (`stream-stays`, `left-through`). Assumes nothing.
+-- Streams as they are filled: the value of the next year is a plain step on (`once-zero`, `once-suc`), which fits (`once-fits`); one value
+-- written more (`stream-next`, `left-next`), one stream more (`streams-next`), and streams that lie before what is written stay
+-- (`stream-stays`, `left-through`). Assumes nothing.
 use Prim.Native.Nat.{ℕ, _+_, _*_, _≤_, _<_}
 use mathlib.Core.Path.{_≡_, refl, sym, subst, _∙_}
 use mathlib.Core.List.{List}

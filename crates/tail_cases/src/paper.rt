@@ -3,10 +3,9 @@
 use crate::show::heading;
 use crate::show::line;
 use crate::words::words_of;
+use case_sheets::REPLACE;
 use case_sheets::lives;
 use case_sheets::paper::sheet;
-
-const REPLACE: usize = 189;
 
 pub fn replacements() {
     let s = sheet();

@@ -1,5 +1,6 @@
--- The running choice on numbers: one end weighed in each of its cases (`weighed-none`, `weighed-take`, `weighed-keep`), one end more
--- (`best-next`), ends that are not offered (`best-past`) or not better (`best-stays`), and what it shows of the choice of entries (`best-shown`). Assumes nothing.
+-- The running choice on numbers: one end weighed in each of its cases (`weighed-none`, `weighed-take`, `weighed-keep`), no end (`best-zero`), one
+-- end more (`best-next`), ends that are not offered (`best-past`) or not better (`best-stays`), and what it shows of the choice of entries
+-- (`weigh-shown`, `best-shown`). Assumes nothing.
 use Prim.Native.Nat.{ℕ, zero, suc, _+_, _≤_, _<_}
 use mathlib.Core.Path.{_≡_, refl}
 use mathlib.Core.Bool.{Bool, true, false, cond, Bool-discrete, not-eq-not}

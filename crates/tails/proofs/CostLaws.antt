@@ -1,21 +1,21 @@
 -- What the arcs of an option cost, by their lengths: written one after the other (`costs-none`, `costs-next`), from a walk; and the same
--- option kept from another year (`kept-from-fits`, `falls-from`). Assumes nothing.
+-- option kept from another year (`kept-from-fits`, `falls-from`, `costs-to`). Assumes nothing.
 use Prim.Native.Nat.{ℕ, _+_, _-_, _≤_, _<_, min}
-use mathlib.Core.Path.{_≡_, ap, _∙_}
+use mathlib.Core.Path.{_≡_, _∙_}
 use mathlib.Core.List.{List}
 use mathlib.Core.Logic.{⊎-elim}
 use native.Mathlib.Omega.{arith}
 use native.Mathlib.Nat.{eq-or-lt-of-le, not-suc-le-zero}
-use lib.ListN.{length, getD, set}
+use lib.ListN.{length, set}
 use lib.Seq.{getD-set-same, getD-set-other}
-use Rattle.costing.specs.Arc.{ageOf, paid, worth}
+use Rattle.costing.specs.Arc.{ageOf}
 use Rattle.costing.specs.Fit.{KeptFits}
 use Rattle.costing.specs.Walk.{walkAt}
 use Rattle.costing.specs.declared.Kept.{Kept}
 use Rattle.costing.specs.declared.Walk.{Walk}
 use Rattle.costing.proofs.WalkLaws.{walk-paid}
 use Rattle.streams.specs.Streams.{Falls}
-use Rattle.tails.specs.Best.{keptCost, keptFrom, Costs, CostsTo}
+use Rattle.tails.specs.Best.{keptFrom, Costs, CostsTo}
 
 module _ (a : Kept) where
   pub kept-from-fits : KeptFits a → (y : ℕ) → y ≤ 300 → KeptFits (keptFrom a y)
@@ -39,10 +39,6 @@ module _ (a : Kept) where
       rw (place, q) (getD-set-same costs n v 0 room ∙ value ∙ walk-paid a w (n + 1) stands (omega arith)))
       (λ (m : k < n). getD-set-other costs i k v 0 (λ e. omega arith) ∙ so-far k m)
       (eq-or-lt-of-le (omega arith))
-
-  -- the arc that ends n + 1 years after the start
-  pub end-cost : (n : ℕ) {v : ℕ} → v ≡ worth a (paid a (n + 1)) → v ≡ keptCost a (a .from + (n + 1))
-  end-cost n e = e ∙ ap (λ (n : ℕ). worth a (paid a n)) (omega arith)
 
   -- of arcs of the same option from another year, not an earlier one, up to the longest life or the horizon
   pub costs-to :

@@ -1,7 +1,8 @@
--- The ends of an option that is kept, on its terms: which the code weighs (`end-test`, `ends-all`), what it has paid by then (`end-paid`), and
--- that its sum with a word leaves room (`end-room`). Assumes nothing.
+-- The ends of an option that is kept, on its terms: which the code weighs (`end-test`, `ends-all`), what the arc to an end costs (`end-cost`,
+-- `end-paid`), and that its sum with a word leaves room (`end-room`). And the terms that are read past the last option (`noTerms`). Assumes
+-- nothing.
 use Prim.Native.Nat.{ℕ, _+_, _-_, _*_, _≤_, _<_, min}
-use mathlib.Core.Path.{_≡_, refl, ap, sym, _∙_}
+use mathlib.Core.Path.{_≡_, ap, sym, _∙_}
 use mathlib.Core.List.{[]}
 use mathlib.Core.Bool.{false, and-true, and-false}
 use native.Mathlib.Omega.{arith}
@@ -15,7 +16,7 @@ use Rattle.costing.specs.declared.Kept.{Kept}
 use Rattle.costing.specs.declared.Walk.{Walk}
 use Rattle.costing.proofs.SizeLaws.{paid-le}
 use Rattle.costing.proofs.WalkLaws.{walk-paid}
-use Rattle.tails.specs.Best.{bestOver, mayEnd, keptCost}
+use Rattle.tails.specs.Best.{mayEnd, keptCost, bestAfter, bestTo}
 use Rattle.tails.specs.declared.Best.{Best}
 use Rattle.tails.proofs.BestLaws.{best-past}
 
@@ -39,11 +40,13 @@ module _ (a : Kept) where
       let years : a .from + (n + 1) - a .from ≡ n + 1 = omega arith in
       rw (e, years, le-leb (n + 1) (a .terms .longest) (omega arith)) (sym (and-true (leb (a .terms .shortest) (n + 1))))
 
-  -- a walk of n + 1 years has paid the arc to that end
+  -- what the arc of n + 1 years costs
+  pub end-cost : (n : ℕ) {v : ℕ} → v ≡ worth a (paid a (n + 1)) → v ≡ keptCost a (a .from + (n + 1))
+  end-cost n e = e ∙ ap (λ (n : ℕ). worth a (paid a n)) (omega arith)
+
+  -- a walk of n + 1 years has paid it
   pub end-paid : (w : Walk) (n : ℕ) → w ≡ walkAt a (n + 1) → w .cost .0 ≡ keptCost a (a .from + (n + 1))
-  end-paid w n stands =
-      let years : n + 1 ≡ a .from + (n + 1) - a .from = omega arith in
-      walk-paid a w (n + 1) stands (omega arith) ∙ ap (λ (n : ℕ). worth a (paid a n)) years
+  end-paid w n stands = end-cost n (walk-paid a w (n + 1) stands (omega arith))
 
   -- an end later than the longest life is not offered
   end-past : (e : ℕ) → a .terms .longest < e - a .from → mayEnd a e ≡ false
@@ -52,12 +55,11 @@ module _ (a : Kept) where
   -- with the ends up to the longest life or the horizon, all are weighed
   pub ends-all :
       (words : ℕ → ℕ) (best : Best) (T n : ℕ) → n ≡ min (a .terms .longest) (T - a .from) → a .from ≤ T
-      → bestOver (mayEnd a) (keptCost a) words (a .from + 1) best n
-      ≡ bestOver (mayEnd a) (keptCost a) words (a .from + 1) best (T - a .from)
+      → bestAfter a words best n ≡ bestTo a T words best
   ends-all words best T n top early =
       let all : n + (T - a .from - n) ≡ T - a .from = omega arith in
       sym (best-past (mayEnd a) (keptCost a) words (a .from + 1) best n (T - a .from - n) (λ e l m. end-past e (omega arith)))
-      ∙ ap (bestOver (mayEnd a) (keptCost a) words (a .from + 1) best) all
+      ∙ ap (bestAfter a words best) all
 
   -- the cost of an arc and a word behind it leave room
   pub end-room :

@@ -1,21 +1,19 @@
 -- The choice of an end by passing over those that are not better: before the shortest life none is offered (`next-first`), ends that are passed
--- change nothing (`next-stays`), and the one that is found is taken (`next-taken`). Assumes nothing.
+-- change nothing (`next-stays`), and the one that is found is taken (`next-taken`), by the sum that the code reads (`sum-read`). Assumes nothing.
 use Prim.Native.Nat.{ℕ, _+_, _-_, _≤_, _<_}
 use mathlib.Core.Path.{_≡_, refl, ap, sym, subst, _∙_}
 use mathlib.Core.Bool.{true, false}
 use mathlib.Core.List.{List}
 use native.Mathlib.Nat.{zero-add}
 use native.Mathlib.Omega.{arith}
-use lib.Dec.{leb}
 use lib.ListN.{getD}
 use borrow.Author.Tests.{le-leb, lt-leb}
 use Rattle.costing.specs.declared.Kept.{Kept}
 use Rattle.choice.specs.Running.{noTotal}
-use Rattle.tails.specs.Best.{weighed, bestOver, mayEnd, keptCost, wordOf, CostsTo, AtMost, NextEnd}
+use Rattle.tails.specs.Best.{mayEnd, keptCost, bestAfter, wordOf, CostsTo, AtMost, NextEnd}
 use Rattle.tails.specs.declared.Best.{Best}
 use Rattle.tails.proofs.BestLaws.{weighed-take, best-zero, best-next, best-past, best-stays}
-use Rattle.tails.proofs.EndLaws.{end-test}
-use Rattle.tails.proofs.CostLaws.{end-cost}
+use Rattle.tails.proofs.EndLaws.{end-test, end-cost}
 
 module _ (a : Kept) where
   -- what the code adds: the cost of the arc of n + 1 years and the word behind its end
@@ -28,19 +26,18 @@ module _ (a : Kept) where
       λ i. cost i + word i
 
   module _ (words : ℕ → ℕ) (best : Best) where
-    abbrev over : ℕ → Best
-    over = bestOver (mayEnd a) (keptCost a) words (a .from + 1) best
-
     early : (e : ℕ) → e - a .from < a .terms .shortest → mayEnd a e ≡ false
     early e l = rw (lt-leb (a .terms .shortest) (e - a .from) l)
 
-    pub next-first : (first : ℕ) → first ≤ a .terms .shortest - 1 → best ≡ over first
+    pub next-first : (first : ℕ) → first ≤ a .terms .shortest - 1 → best ≡ bestAfter a words best first
     next-first first l =
         best-zero (mayEnd a) (keptCost a) words (a .from + 1) best
         ∙ sym (best-past (mayEnd a) (keptCost a) words (a .from + 1) best 0 first (λ e m u. early e (omega arith)))
-        ∙ ap over (zero-add first)
+        ∙ ap (bestAfter a words best) (zero-add first)
 
-    pub next-stays : (so-far : Best) (first years r : ℕ) → so-far ≡ over first → NextEnd a words first years (so-far .total) r → so-far ≡ over r
+    pub next-stays :
+        (so-far : Best) (first years r : ℕ) → so-far ≡ bestAfter a words best first → NextEnd a words first years (so-far .total) r
+        → so-far ≡ bestAfter a words best r
     next-stays so-far first years r before next =
         let all : first + (r - first) ≡ r = omega (arith, next .from) in
         best-stays (mayEnd a) (keptCost a) words (a .from + 1) best so-far first (r - first) before
@@ -49,11 +46,13 @@ module _ (a : Kept) where
         let at : a .from + (n + 1) ≡ e = omega arith in
         subst (λ (e : ℕ). (words e ≡ noTotal → ⊥) → so-far .total < keptCost a e + words e) at
         (next .passed n (omega arith) (omega (arith, next .from))))
-        ∙ ap over all
+        ∙ ap (bestAfter a words best) all
 
     pub next-taken :
-        (so-far : Best) (n : ℕ) → so-far ≡ over n → AtMost a words (so-far .total) n → a .terms .shortest ≤ n + 1 → n < a .terms .longest
-        → record { total = keptCost a (a .from + (n + 1)) + words (a .from + (n + 1)); end = a .from + (n + 1) } ≡ over (n + 1)
+        (so-far : Best) (n : ℕ) → so-far ≡ bestAfter a words best n → AtMost a words (so-far .total) n → a .terms .shortest ≤ n + 1
+        → n < a .terms .longest
+        → record { total = keptCost a (a .from + (n + 1)) + words (a .from + (n + 1)); end = a .from + (n + 1) }
+        ≡ bestAfter a words best (n + 1)
     next-taken so-far n before least old lives =
         let e = a .from + (n + 1) in
         let on = sym (le-leb (a .terms .shortest) (n + 1) old) ∙ end-test a n refl lives in

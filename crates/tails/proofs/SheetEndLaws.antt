@@ -1,5 +1,6 @@
 -- The choice of an end on the terms of an option is the one that the rules give: for any option and entries behind the ends (`ends-over`),
--- and for replacements, where it is the table's (`tail-best`, `year-best`). Assumes nothing.
+-- and for replacements, where it is the table's (`tail-best`, `year-best`). Words that have the table's totals leave room (`words-fit`).
+-- Assumes nothing.
 use Prim.Native.Nat.{ℕ, _+_, _-_, _≤_, _<_}
 use mathlib.Core.Path.{_≡_, refl, ap, sym, _∙_}
 use mathlib.Core.Bool.{true, false, _&&_, or-false}
@@ -27,7 +28,7 @@ use Rattle.choice.specs.Running.{Entry, noEntry, over}
 use Rattle.choice.proofs.RunningLaws.{over-same, over-start}
 use Rattle.tails.specs.Tail.{costTo, bestEnd, tail}
 use Rattle.tails.specs.Words.{withYear}
-use Rattle.tails.specs.Best.{shown, bestOver, mayEnd, keptCost, wordOf, WordsFit, withBest}
+use Rattle.tails.specs.Best.{shown, bestOver, mayEnd, keptCost, bestTo, wordOf, WordsFit, withBest}
 use Rattle.tails.specs.declared.Best.{Best}
 use Rattle.tails.proofs.TailLaws.{tail-step, tail-le}
 use Rattle.tails.proofs.BestLaws.{best-shown}
@@ -51,8 +52,8 @@ module _ (p : PlanningSheet) (option y : ℕ) (a : Kept) (read : (e : ℕ) → a
   unfolding arcOf termsOf
   longest-read = ap (λ (k : Kept). k .terms .longest) (read y)
 
-  end-cost : (e : ℕ) → keptCost a e ≡ costTo p option y e
-  end-cost e = ap (λ (n : ℕ). worth a (paid a (e - n))) from-read ∙ cost-paid p option y e a (read e)
+  cost-read : (e : ℕ) → keptCost a e ≡ costTo p option y e
+  cost-read e = ap (λ (n : ℕ). worth a (paid a (e - n))) from-read ∙ cost-paid p option y e a (read e)
 
   end-offered : (e : ℕ) → placed (p .horizon) option y e ≡ true → y < e → mayEnd a e ≡ offered p option y e
   end-offered e well late =
@@ -72,7 +73,7 @@ module _ (p : PlanningSheet) (option y : ℕ) (a : Kept) (read : (e : ℕ) → a
       (λ e l m on. held e (omega arith) (omega arith) (sym (end-offered e (well e (omega arith) (omega arith)) (omega arith)) ∙ on))
       ∙ ap shown
       (over-same (mayEnd a) (offered p option y) (keptCost a) (costTo p option y) behind behind (y + 1) best n
-      (λ e l m. end-offered e (well e (omega arith) (omega arith)) (omega arith)) (λ e l m on. end-cost e) (λ e l m on. refl))
+      (λ e l m. end-offered e (well e (omega arith) (omega arith)) (omega arith)) (λ e l m on. cost-read e) (λ e l m on. refl))
 
 -- a replacement within the horizon is well placed
 replace-placed : (T y e : ℕ) → y < e → e ≤ T → placed T replace y e ≡ true
@@ -88,8 +89,7 @@ not-at-once p y =
 module _ (p : PlanningSheet) (s : Sheet) (other : Terms) (read : s ≡ parsed p) (words : ℕ → ℕ) where
   tail-over :
       (y : ℕ) → y < p .horizon → ((e : ℕ) → y < e → e ≤ p .horizon → words e ≡ tail p e .total)
-      → let a = keptOf s other replace y in
-      bestOver (mayEnd a) (keptCost a) words (y + 1) (shown noEntry) (p .horizon - y) ≡ shown (tail p y)
+      → bestTo (keptOf s other replace y) (p .horizon) words (shown noEntry) ≡ shown (tail p y)
   unfolding bestEnd
   tail-over y early held =
       ends-over p replace y (keptOf s other replace y) (λ e. kept-read p replace y e s other read (omega arith)) words (tail p) noEntry
@@ -100,29 +100,23 @@ module _ (p : PlanningSheet) (s : Sheet) (other : Terms) (read : s ≡ parsed p)
       ∙ sym (tail-step p y early))
 
   pub tail-best :
-      (y from : ℕ) {best : Best} → from ≡ y → y < s .horizon → ((e : ℕ) → y < e → e ≤ s .horizon → words e ≡ tail p e .total)
-      → let a = keptOf s other replace from in
-      best ≡ bestOver (mayEnd a) (keptCost a) words (from + 1) (shown noEntry) (s .horizon - from)
-      → best ≡ shown (tail p y)
-  tail-best y from same early held best =
-      let T = horizon-read s p read in
-      best
-      ∙ (λ i.
-      let a = keptOf s other replace (same i) in
-      bestOver (mayEnd a) (keptCost a) words (same i + 1) (shown noEntry) (T i - same i))
-      ∙ tail-over y (omega (arith, T)) (λ e l m. held e l (omega (arith, T)))
+      (y : ℕ) → y < s .horizon → ((e : ℕ) → y < e → e ≤ s .horizon → words e ≡ tail p e .total)
+      → bestTo (keptOf s other replace y) (s .horizon) words (shown noEntry) ≡ shown (tail p y)
+  tail-best y early held =
+      let same = horizon-read s p read in
+      ap (λ (T : ℕ). bestTo (keptOf s other replace y) T words (shown noEntry)) same
+      ∙ tail-over y (omega (arith, same)) (λ e l m. held e l (omega (arith, same)))
 
--- words that have the totals of the table leave room
 -- so the words that the choice from year y is written to are those of the table
 pub year-best :
     (p : PlanningSheet) (s : Sheet) (other : Terms) (read : s ≡ parsed p) (words : List ℕ) (y : ℕ) {new : List ℕ} → y < s .horizon
     → ((e : ℕ) → y < e → e ≤ s .horizon → wordOf words e ≡ tail p e .total)
-    → let a = keptOf s other replace y in
-    new ≡ withBest y (bestOver (mayEnd a) (keptCost a) (wordOf words) (y + 1) (shown noEntry) (s .horizon - y)) words
+    → new ≡ withBest y (bestTo (keptOf s other replace y) (s .horizon) (wordOf words) (shown noEntry)) words
     → new ≡ withYear p y words
 year-best p s other read words y early held written =
-    written ∙ ap (λ (best : Best). withBest y best words) (tail-best p s other read (wordOf words) y y refl early held refl)
+    written ∙ ap (λ (best : Best). withBest y best words) (tail-best p s other read (wordOf words) y early held)
 
+-- words that have the totals of the table leave room
 pub words-fit :
     (p : PlanningSheet) → Fit (parsed p) → (T y : ℕ) (words : List ℕ) → T ≡ p .horizon
     → ((e : ℕ) → y < e → e ≤ T → wordOf words e ≡ tail p e .total) → WordsFit T y words

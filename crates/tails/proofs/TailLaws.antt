@@ -1,7 +1,7 @@
 -- The table holds what document 01 asks. Its entry of T is empty (`tail-last`), that of an earlier year the best end by the later entries
 -- (`tail-step`). The best end of an option is the entry of the lists that begin with it (`best-holds`); so an entry of the table has the chosen
--- list of replacements from its year to T (`tail-holds`), and a total that is at most what the years left can cost (`tail-le`): total and
--- first end are the cheapest (`tail-cheapest`). Assumes nothing.
+-- list of replacements from its year to T (`tail-holds`), and a total that is at most what the years left can cost (`tail-le`), which is less
+-- than 2^64 − 1 (`room-lt`): total and first end are the cheapest (`tail-cheapest`). Assumes nothing.
 use Prim.Native.Nat.{ℕ, suc, _+_, _-_, _*_, _≤_, _<_}
 use mathlib.Core.Path.{_≡_, refl, ap}
 use mathlib.Core.List.{List, [], _∷_}

@@ -1,6 +1,8 @@
--- The lent words can be written from T down: first those of T (`words-last`), then those of each year before (`words-next`), until all are
--- written (`words-all`). Those of a written year are its total and first end (`words-read`), the others are as they were (`words-others`):
--- so the words after planning are those that document 01 asks (`words-cheapest`, `words-cheapest-of-passes`). Assumes nothing.
+-- The lent words can be written from T down (`wordsFrom`): first those of T (`words-last`), then those of each year before (`words-next`), one
+-- year or two at a time (`held-next`, `words-two`), until all are written (`words-all`). Those of a written year are its total and first end
+-- (`words-read`), so that to write them again changes nothing (`words-again`); the others are as they were (`words-others`), and so is the
+-- length (`words-length`). So the words after planning (`tail-words-read`, `tail-words-length`) are those that document 01 asks
+-- (`words-cheapest`, `words-cheapest-of-passes`). Assumes nothing.
 use Prim.Native.Nat.{ℕ, zero, suc, _+_, _-_, _≤_, _<_}
 use mathlib.Core.Path.{_≡_, refl, sym, ap, _∙_}
 use mathlib.Core.List.{List, [], _∷_, map}
@@ -99,24 +101,22 @@ module _ (p : PlanningSheet) where
 
     words-step :
         (y : ℕ) → y < p .horizon
-        → wordsFrom p (p .horizon - y) words
-        ≡ set (set (wordsFrom p (p .horizon - (y + 1)) words) y (tail p y .total)) (301 + y) (firstEnd (tail p y))
+        → wordsFrom p (p .horizon - y) words ≡ withYear p y (wordsFrom p (p .horizon - (y + 1)) words)
     unfolding tail
     words-step y h =
         rw (words-written y (omega arith), words-written (y + 1) (omega arith), table-cons (p .horizon) (bestEnd p replace) y h)
         (written-cons words y (tail p y) (from (y + 1)))
 
-    -- two words written more
+    -- the words of one year more
     pub words-next :
-        (y : ℕ) → y < p .horizon → (l : List ℕ) {i j total end : ℕ} → l ≡ wordsFrom p (p .horizon - (y + 1)) words → i ≡ y → j ≡ 301 + y
-        → total ≡ tail p y .total → end ≡ firstEnd (tail p y) → set (set l i total) j end ≡ wordsFrom p (p .horizon - y) words
-    words-next y h l later first second total end = rw (later, first, second, total, end) (sym (words-step y h))
+        (y : ℕ) → y < p .horizon → (l : List ℕ) → l ≡ wordsFrom p (p .horizon - (y + 1)) words → withYear p y l ≡ wordsFrom p (p .horizon - y) words
+    words-next y h l later = ap (withYear p y) later ∙ sym (words-step y h)
 
     pub words-all : wordsFrom p (p .horizon) words ≡ tailWords p words
     unfolding wordsFrom tailWords tails
     words-all = rw (sub-self (p .horizon))
 
-    -- the words of one year more
+    -- with them, the totals of the years from y on are held
     pub held-next :
         (y : ℕ) → y ≤ 300 → 602 ≤ length words → p .horizon ≤ 300 → WordsHeld p (y + 1) words → WordsHeld p y (withYear p y words)
     held-next y near room far later e l u =
@@ -168,14 +168,14 @@ module _ (p : PlanningSheet) where
     words-two far room y some early l written =
         let same : p .horizon - y ≡ p .horizon - (y - 1 + 1) = omega arith in
         let first =
-        words-next (y - 1) (omega arith) l (written ∙ ap (λ (n : ℕ). wordsFrom p n words) same) refl refl refl refl in
-        ⊎-elim
-        (λ (q : 1 ≡ y).
+        words-next (y - 1) (omega arith) l (written ∙ ap (λ (n : ℕ). wordsFrom p n words) same) in
+        ⊎-elim {A = 1 ≡ y} {B = 1 < y}
+        (λ q.
         let once : y - 1 - 1 ≡ y - 1 = omega arith in
         rw once (words-again far room (y - 1) (omega arith) (withYear p (y - 1) l) first))
-        (λ (m : 1 < y).
+        (λ m.
         let next : p .horizon - (y - 1) ≡ p .horizon - (y - 1 - 1 + 1) = omega arith in
-        words-next (y - 1 - 1) (omega arith) (withYear p (y - 1) l) (first ∙ ap (λ (n : ℕ). wordsFrom p n words) next) refl refl refl refl)
+        words-next (y - 1 - 1) (omega arith) (withYear p (y - 1) l) (first ∙ ap (λ (n : ℕ). wordsFrom p n words) next))
         (eq-or-lt-of-le some)
 
     -- after planning, those of every year

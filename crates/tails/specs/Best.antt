@@ -1,5 +1,5 @@
 -- The running choice on the numbers that the code keeps: a least total and the first end of the list that has it. `BestLaws.antt` shows that
--- it follows the choice of entries. Definitions only.
+-- it follows the choice of entries. And what the code makes it by: costs of arcs, words and streams. Definitions only.
 use Prim.Native.Nat.{ℕ, zero, suc, _+_, _-_, _*_, _≤_, _<_}
 use mathlib.Core.Path.{_≡_}
 use mathlib.Core.Bool.{Bool, cond, _&&_}
@@ -38,9 +38,13 @@ mayEnd a e = leb (a .terms .shortest) (e - a .from) && leb (e - a .from) (a .ter
 abbrev pub keptCost : Kept → ℕ → ℕ
 keptCost a e = worth a (paid a (e - a .from))
 
--- the choice so far after the ends of an option that is kept, up to T
+-- the choice so far after the ends of an option that is kept, in the first n years after its start
+abbrev pub bestAfter : Kept → (words : ℕ → ℕ) → Best → (n : ℕ) → Best
+bestAfter a words best n = bestOver (mayEnd a) (keptCost a) words (a .from + 1) best n
+
+-- up to T
 abbrev pub bestTo : Kept → (T : ℕ) (words : ℕ → ℕ) → Best → Best
-bestTo a T words best = bestOver (mayEnd a) (keptCost a) words (a .from + 1) best (T - a .from)
+bestTo a T words best = bestAfter a words best (T - a .from)
 
 -- the same option, kept from another year
 abbrev pub keptFrom : Kept → ℕ → Kept

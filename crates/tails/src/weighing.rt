@@ -16,6 +16,7 @@ use division::Divisor;
 // No total: no list leads to the horizon.
 pub const NONE: u64 = 18_446_744_073_709_551_615;
 
+// The smaller of two numbers.
 pub fn least(a: u64, b: u64) -> u64
     ensures { λ r. ⌜ r ≡ min a b ⌝ }
 {

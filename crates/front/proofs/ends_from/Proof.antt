@@ -1,6 +1,6 @@
 -- The ends one after the other: the year that is reached rises, and what is written and the ends from there are those from j. Assumes nothing.
 use Prim.Native.Nat.{ℕ, _-_, _≤_, _<_}
-use mathlib.Core.Path.{_≡_, refl, _∙_}
+use mathlib.Core.Path.{_≡_, refl}
 use native.Mathlib.Omega.{arith}
 use lib.ListN.{length, length-set, getD}
 use denote.Ref.{now}

@@ -1,10 +1,8 @@
 -- Length 0 is weighed, then the longer ones. Assumes nothing.
 use mathlib.Core.Path.{ap, _∙_}
 use native.Mathlib.Omega.{arith}
-use Prim.Native.Nat.{_+_, _-_}
 use denote.Ref.{now}
-use Rattle.tails.specs.Best.{bestOver, mayEnd, keptCost, wordOf}
-use Rattle.tails.specs.declared.Best.{Best}
+use Rattle.tails.specs.Best.{bestTo, wordOf}
 use borrow.Author.Needs.{needs}
 use Rattle.front.proofs.keeping.best_from.Statement.{statement}
 use Rattle.front.proofs.keeping.best_from.Tie as tie
@@ -12,11 +10,7 @@ use Rattle.front.proofs.keeping.best_from.Tie as tie
 returns : tie.Need-returns
 returns c =
     let a = c .before .before .before .before .before .args in
-    c .best-end .ensures
-    ∙ ap
-    (λ (best : Best).
-    bestOver (mayEnd (a .kept)) (keptCost (a .kept)) (wordOf (now (a .words))) (a .kept .from + 1) best (a .horizon - a .kept .from))
-    (c .before .weigh .ensures)
+    c .best-end .ensures ∙ ap (bestTo (a .kept) (a .horizon) (wordOf (now (a .words)))) (c .before .weigh .ensures)
 
 mul-behind : tie.Need-mul-behind
 mul-behind c = search needs

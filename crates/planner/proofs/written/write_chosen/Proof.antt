@@ -16,7 +16,7 @@ use Rattle.front.specs.Front.{front, FirstsLent}
 use Rattle.front.specs.declared.Front.{Front}
 use Rattle.front.proofs.TakenLaws.{planned-begins}
 use Rattle.planner.specs.Planning.{found, planWith}
-use Rattle.planner.proofs.PlanningLaws.{Ends, planning-none, planning-short, planning-fits}
+use Rattle.planner.proofs.PlanningLaws.{SheetOutcome, planning-none, planning-short, planning-fits}
 use Rattle.planner.proofs.FoundLaws.{found-read, found-count, found-few}
 use borrow.Author.Needs.{needs}
 use Rattle.planner.proofs.written.write_chosen.Statement.{statement}
@@ -55,7 +55,7 @@ count-few c =
 -- no chain
 none :
     (c : tie.Then1) (p : PlanningSheet) → start (c .before) .args .sheet ≡ parsed p
-    → Ends p (now (start (c .before) .args .plan)) (refused 11 3) (now (start (c .before) .args .plan))
+    → SheetOutcome p (now (start (c .before) .args .plan)) (refused 11 3) (now (start (c .before) .args .plan))
 none c p read = planning-none p _ (omega (arith, ap (λ (f : Front). f .total) (begins (c .before) p read), c .if1 .taken))
 
 returns : tie.Need-returns
@@ -71,7 +71,7 @@ going c = c .before .before .before .before
 short :
     (c : tie.Then2) (p : PlanningSheet)
     → let s = start (going (c .before) .before) in
-    s .args .sheet ≡ parsed p → Ends p (now (s .args .plan)) (refused 12 3) (now (s .args .plan))
+    s .args .sheet ≡ parsed p → SheetOutcome p (now (s .args .plan)) (refused 12 3) (now (s .args .plan))
 short c p read =
     planning-short p _ (there (going (c .before)) p read) (omega (arith, count-read (c .before .before) p read, c .if2 .taken))
 
@@ -86,7 +86,7 @@ fits :
     (c : tie.Else2) (p : PlanningSheet)
     → let s = start (going (c .before) .before) in
     s .args .sheet ≡ parsed p
-    → Ends p (now (s .args .plan)) (accepted (planned p .total)) (planWith p (now (s .args .plan)))
+    → SheetOutcome p (now (s .args .plan)) (accepted (planned p .total)) (planWith p (now (s .args .plan)))
 fits c p read =
     planning-fits p _ (there (going (c .before)) p read) (omega (arith, count-read (c .before .before) p read, c .if2 .left))
 

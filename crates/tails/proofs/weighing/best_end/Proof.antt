@@ -9,7 +9,7 @@ use Rattle.costing.specs.Walk.{overhaulsAt, walkAt}
 use Rattle.costing.proofs.WalkLaws.{walk-years, walk-stands}
 use Rattle.streams.specs.Streams.{Falls}
 use Rattle.streams.proofs.FallLaws.{falls-zero}
-use Rattle.tails.specs.Best.{bestOver, mayEnd, keptCost, wordOf}
+use Rattle.tails.specs.Best.{mayEnd, keptCost, bestAfter, wordOf}
 use Rattle.tails.proofs.BestLaws.{best-zero, best-next}
 use Rattle.tails.proofs.EndLaws.{end-test, end-paid, end-room, ends-all}
 use Rattle.tails.proofs.weighing.best_end.Statement.{statement}
@@ -20,7 +20,7 @@ Inv-loop words streams ages kept discount horizon from shortest top chosen₀ wa
     (n ≤ top)
     × (walk ≡ walkAt kept n)
     × Falls kept n next
-    × (chosen ≡ bestOver (mayEnd kept) (keptCost kept) (wordOf words) (from + 1) chosen₀ n)
+    × (chosen ≡ bestAfter kept (wordOf words) chosen₀ n)
 
 abbrev μ-loop : tie.MeasureT-loop
 μ-loop words streams ages kept discount horizon from shortest top chosen₀ walk₀ next₀ n₀ chosen walk next n = top - n

@@ -1,12 +1,11 @@
 -- The choice of an end by what the arcs cost: the ends before n are weighed, and n is the next one that is not dearer, if there is one.
 -- Assumes nothing.
-use Prim.Native.Nat.{ℕ, _+_, _-_, _≤_, _<_, min}
+use Prim.Native.Nat.{_+_, _-_, _≤_, _<_, min}
 use mathlib.Core.Path.{_≡_, _∙_}
 use native.Mathlib.Omega.{arith}
 use lib.ListN.{getD}
 use denote.Ref.{now}
-use Rattle.tails.specs.Best.{bestOver, mayEnd, keptCost, wordOf, AtMost, NextEnd}
-use Rattle.tails.specs.declared.Best.{Best}
+use Rattle.tails.specs.Best.{keptCost, bestAfter, wordOf, AtMost}
 use Rattle.tails.proofs.EndLaws.{end-room, ends-all}
 use Rattle.tails.proofs.NextLaws.{sum-read, next-first, next-stays, next-taken}
 use Rattle.tails.proofs.weighing.best_of.Statement.{statement}
@@ -16,7 +15,7 @@ abbrev Inv-loop : tie.InvT-loop
 Inv-loop words costs kept horizon years first chosen₀ n₀ chosen n =
     (n ≤ years)
     × (n < years → kept .terms .shortest ≤ n + 1)
-    × (chosen ≡ bestOver (mayEnd kept) (keptCost kept) (wordOf words) (kept .from + 1) chosen₀ n)
+    × (chosen ≡ bestAfter kept (wordOf words) chosen₀ n)
     × (n < years → AtMost kept (wordOf words) (chosen .total) n)
 
 abbrev μ-loop : tie.MeasureT-loop
@@ -71,7 +70,7 @@ taken :
       total = getD (now (s .args .costs)) n 0 + getD (now (s .args .words)) (s .args .kept .from + n + 1) 0;
       end = s .args .kept .from + n + 1;
     }
-    ≡ bestOver (mayEnd (s .args .kept)) (keptCost (s .args .kept)) (wordOf (now (s .args .words))) (s .args .kept .from + 1) (s .args .best) (n + 1)
+    ≡ bestAfter (s .args .kept) (wordOf (now (s .args .words))) (s .args .best) (n + 1)
 taken i =
     let s = start (entered i) in
     let loop = i .before .loop in

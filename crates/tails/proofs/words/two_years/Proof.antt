@@ -46,7 +46,6 @@ held :
     → (e : ℕ) → s .args .reached - 1 < e → e ≤ sheet s .horizon → wordOf (now (s .args .words)) e ≡ tail p e .total
 held s p read e late inside = s .pre .1 .1 .2 p read e (omega arith) (omega (arith, horizon-read (sheet s) p read))
 
--- and when its own are written
 two-starts-requires : tie.Need-two-starts-requires
 two-starts-requires c κs =
     let b = c .before .before .before in
