@@ -1,10 +1,9 @@
 // Faulty sheets: the paper's with one field past its limit. A fault in a record comes with the option.
 
 use crate::planned::amply;
+use case_sheets::REPLACE;
 use case_sheets::paper::sheet;
 use case_sheets::put16;
-
-const REPLACE: usize = 189;
 
 pub fn sheets() {
     let late = put16(sheet(), 5, 301);

@@ -3,10 +3,9 @@
 use crate::planned::amply;
 use crate::planned::in_buffers;
 use crate::show::priced;
+use case_sheets::REPLACE;
 use case_sheets::lives;
 use case_sheets::paper::sheet;
-
-const REPLACE: usize = 189;
 
 // Its five replacements fill 29 bytes, so the whole buffer is the plan that is priced.
 pub fn replacements() {

@@ -1,16 +1,13 @@
 // Sheets on which replacing is put off, or not done at all: r 0, and all that is not named 0.
 
 use crate::planned::amply;
+use case_sheets::MAINTAIN;
+use case_sheets::RENOVATE;
+use case_sheets::REPLACE;
 use case_sheets::lives;
 use case_sheets::plain;
 use case_sheets::put16;
 use case_sheets::put32;
-
-const MAINTAIN: usize = 11;
-
-const RENOVATE: usize = 100;
-
-const REPLACE: usize = 189;
 
 fn undiscounted(horizon: u64) -> [u8; 278] {
     put32(put16(plain(), 5, horizon), 7, 0)
