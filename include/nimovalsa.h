@@ -134,7 +134,7 @@ uint64_t nimovalsa_check(const uint8_t *sheet, size_t length);
  * written, and nothing is kept between calls.
  *
  * Duties of the caller: those of nimovalsa_check, with NIMOVALSA_COST_STACK
- * bytes of stack. The call was measured to use 776; tests/c measures it again
+ * bytes of stack. The call was measured to use 808; tests/c measures it again
  * and fails above the figure here. It is not proved.
  */
 #define NIMOVALSA_COST_STACK 8192
@@ -216,7 +216,7 @@ uint64_t nimovalsa_price(const uint8_t *sheet, size_t sheet_length,
  *   - nothing else reads or changes plan and words during the call, and nothing
  *     changes the sheet.
  *   - NIMOVALSA_PLAN_STACK bytes of stack are free. The call was measured to
- *     use 33,968 bytes; tests/c measures it again and fails above the figure
+ *     use 33,936 bytes; tests/c measures it again and fails above the figure
  *     here. It is not proved.
  */
 #define NIMOVALSA_PLAN_WORDS 602

@@ -1,4 +1,4 @@
-"""The sheets in crates/show_cases/data, each made again from document 01's words."""
+"""The sheets in crates/test_show/data, each made again from document 01's words."""
 
 from .sheets import (COUNT, ELECTRICITY, ELECTRICITY_AGEING, ELECTRICITY_INFLATION, HORIZON, INVESTMENT_INFLATION,
                      LONGEST, MAINTENANCE_AGEING, MAINTENANCE_INFLATION, OVERHAULS, OVERHAUL_INFLATION, PAPER, RATE,
@@ -60,6 +60,6 @@ def run_only():
 
 
 def sheets():
-    """The sheets by name, in the order in which `show_cases` prints them."""
+    """The sheets by name, in the order in which `test_show` prints them."""
     for part in (accepted, run_only, refused_by_the_header, refused_by_a_record):
         yield from part()

@@ -6,17 +6,17 @@ use mathlib.Core.Path.{subst}
 use mathlib.Core.List.{List, [], _∷_}
 use native.Mathlib.Nat.{mul-le-mul-left}
 use native.Mathlib.Omega.{arith}
-use Rattle.sheet.specs.Sheet.{PlanningSheet}
+use Rattle.base.specs.Lists.{sumOf}
+use Rattle.sheet.specs.Sheet.{PlanningSheet, maintain, renovate, replace}
 use Rattle.sheet.specs.Parsed.{parsed}
 use Rattle.checking.specs.Fit.{Fit}
-use Rattle.costing.specs.Step.{above, below}
-use Rattle.costing.specs.Lists.{total}
+use Rattle.steps.specs.Step.{above, below}
 use Rattle.costing.specs.Arc.{arcOf, cost, exactCost}
 use Rattle.costing.specs.Error.{allowance}
-use Rattle.costing.proofs.ErrorOfArc.{Between, between-add, arc-between}
+use Rattle.costing.specs.Fit.{Between}
+use Rattle.costing.proofs.ErrorOfArc.{between-add, arc-between}
 use Rattle.costing.proofs.SheetArcLaws.{arc-fits}
-use Rattle.chain.specs.Chain.{Chain, Activity, _from_to_, maintain, renovate, replace, replacements, activities, last, Feasible}
-use Rattle.chain.specs.Chain.{arcsOf, roundedTotal, exactValue}
+use Rattle.chain.specs.Chain.{Chain, Activity, _from_to_, replacements, activities, last, Feasible, arcsOf, roundedTotal, exactValue}
 use Rattle.chain.specs.Error.{denominator, TotalNear}
 use Rattle.chain.specs.Ordered.{Climbs}
 use Rattle.chain.proofs.FeasibleLaws.{climbs-rest, ordered-of-feasible}
@@ -24,10 +24,10 @@ use Rattle.chain.proofs.FeasibleLaws.{climbs-rest, ordered-of-feasible}
 module _ (p : PlanningSheet) (fit : Fit (parsed p)) where
   -- what activities cost, rounded, against their exact value: four times the difference is at most B − A
   abbrev Allowed : List Activity → (A B : ℕ) → Type 0
-  Allowed l A B = Between (total cost (arcsOf p l)) (total exactCost (arcsOf p l)) (denominator p) A B
+  Allowed l A B = Between (sumOf cost (arcsOf p l)) (sumOf exactCost (arcsOf p l)) (denominator p) A B
 
   allowed-none : (A : ℕ) → Allowed [] A A
-  unfolding total arcsOf
+  unfolding sumOf arcsOf
   allowed-none A = record { high = omega arith; low = omega arith }
 
   -- one arc, between the allowances of its start and its end
@@ -46,7 +46,7 @@ module _ (p : PlanningSheet) (fit : Fit (parsed p)) where
     -- and others after it
     allowed-cons :
         (l : List Activity) (B : ℕ) → Allowed l (allowance end) B → Allowed (option from start to end ∷ l) (allowance start) B
-    unfolding total arcsOf
+    unfolding sumOf arcsOf
     allowed-cons l B rest = between-add arc-allowed rest
 
   -- arcs that follow each other

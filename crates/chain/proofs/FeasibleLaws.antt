@@ -1,50 +1,37 @@
--- Laws of `Feasible`: the tests and the facts agree (`reaches-iff`, `feasible-iff`); the years of a feasible chain are in order
--- (`ordered-of-feasible`) and its replacements at most T (`few-ends`), and its bytes give it back (`decode-feasible`). Assumes nothing.
+-- Laws of `Feasible`: a chain is feasible exactly where maintaining and renovating are offered and replacements, each of a year or more
+-- (`replace-forward`), lead to T (`feasible-parts`); its years are in order (`ordered-of-feasible`, `climbs-rest`), its replacements at most T
+-- (`few-ends`), its numbers narrow (`narrow-of-feasible`), and its bytes give it back (`decode-feasible`). Assumes nothing.
 use Prim.Native.Nat.{ℕ, _+_, _≤_, _<_}
 use mathlib.Core.Path.{_≡_}
 use mathlib.Core.List.{List, [], _∷_}
-use mathlib.Core.Bool.{true}
 use mathlib.Core.Logic.{_↔_, ⊎-elim}
 use native.Mathlib.Omega.{arith}
 use lib.ListN.{length}
-use Rattle.sheet.specs.Sheet.{PlanningSheet}
-use Rattle.checking.proofs.TestLaws.{eqb-iff, both-iff}
-use Rattle.costing.specs.Lists.{Every}
+use Rattle.base.specs.Lists.{Every}
+use Rattle.base.proofs.ListsLaws.{every-map}
+use Rattle.sheet.specs.Sheet.{PlanningSheet, maintain, renovate, replace}
 use Rattle.costing.specs.Offered.{Offered}
-use Rattle.costing.proofs.ListsLaws.{every-map}
-use Rattle.costing.proofs.OfferedLaws.{offered-iff}
-use Rattle.chain.specs.Chain.{Chain, maintain, renovate, replace, replacements, activities, Rising, last, OffersActivity, Reaches, Feasible}
-use Rattle.chain.specs.PlanBytes.{encode, decode}
-use Rattle.chain.specs.Fitting.{reaches, feasible}
+use Rattle.chain.specs.Chain.{Chain, replacements, activities, Rising, OffersActivity, Reaches, Feasible}
+use Rattle.chain.specs.PlanBytes.{encode, decode, Narrow}
 use Rattle.chain.specs.Ordered.{Climbs, Ordered}
-use Rattle.chain.proofs.PlanBytesLaws.{Narrow, decode-encode}
+use Rattle.chain.proofs.PlanBytesLaws.{decode-encode}
 
 -- without the first of the years
 pub climbs-rest : {T y k : ℕ} {ks : List ℕ} → Climbs T y (k ∷ ks) → Climbs T k ks
 climbs-rest h = record { early = h .inside .0; rising = h .rising .1; inside = h .inside .1 }
 
+-- what follows for the years of a feasible chain
 module _ (p : PlanningSheet) where
-  pub reaches-iff : (y : ℕ) (ks : List ℕ) → (reaches p y ks ≡ true) ↔ Reaches p y ks
-  unfolding reaches replacements last
-  reaches-iff y [] =
-      let ends = eqb-iff y (p .horizon) in
-      (λ e. record { offered = tt; arrived = ends .0 e }, λ h. ends .1 (h .arrived))
-  reaches-iff y (k ∷ ks) =
-      let both = both-iff (offered-iff p replace y k) (reaches-iff k ks) in (
-        λ e. let h = both .0 e in record { offered = (h .0, h .1 .offered); arrived = h .1 .arrived },
-        λ h. both .1 (h .offered .0, record { offered = h .offered .1; arrived = h .arrived }),
-      )
-
   -- a replacement has at least a year
   pub replace-forward : (y k : ℕ) → Offered p replace y k → y < k
   replace-forward y k h = ⊎-elim (λ l. omega arith) (λ l. absurd (omega arith)) (h .lasting)
 
-  pub rising-of-offered : (y : ℕ) (ks : List ℕ) → Every (OffersActivity p) (replacements y ks) → Rising y ks
+  rising-of-offered : (y : ℕ) (ks : List ℕ) → Every (OffersActivity p) (replacements y ks) → Rising y ks
   unfolding replacements
   rising-of-offered y [] h = tt
   rising-of-offered y (k ∷ ks) h = (replace-forward y k (h .0), rising-of-offered k ks (h .1))
 
-  pub inside-of-offered : (y : ℕ) (ks : List ℕ) → Every (OffersActivity p) (replacements y ks) → Every (λ k. k ≤ p .horizon) ks
+  inside-of-offered : (y : ℕ) (ks : List ℕ) → Every (OffersActivity p) (replacements y ks) → Every (λ k. k ≤ p .horizon) ks
   unfolding replacements
   inside-of-offered y [] h = tt
   inside-of-offered y (k ∷ ks) h = (h .0 .inside, inside-of-offered k ks (h .1))
@@ -65,15 +52,6 @@ module _ (p : PlanningSheet) where
           arrived = h .1 .1 .arrived;
         },
   )
-
-  pub feasible-iff : (c : Chain) → (feasible p c ≡ true) ↔ Feasible p c
-  unfolding feasible
-  feasible-iff c =
-      let tests =
-      both-iff (offered-iff p maintain 0 (c .i))
-      (both-iff (offered-iff p renovate (c .i) (c .j)) (reaches-iff (c .j) (c .ends))) in
-      let parts = feasible-parts c in
-      (λ e. parts .1 (tests .0 e), λ h. tests .1 (parts .0 h))
 
   pub ordered-of-feasible : (c : Chain) → Feasible p c → Ordered (p .horizon) c
   ordered-of-feasible c h =

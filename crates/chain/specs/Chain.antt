@@ -2,8 +2,8 @@
 use Prim.Native.Nat.{ℕ, _≤_, _<_}
 use mathlib.Core.Path.{_≡_}
 use mathlib.Core.List.{List, [], _∷_, map}
-use Rattle.sheet.specs.Sheet.{PlanningSheet}
-use Rattle.costing.specs.Lists.{total, Every}
+use Rattle.base.specs.Lists.{Every, sumOf}
+use Rattle.sheet.specs.Sheet.{PlanningSheet, maintain, renovate, replace}
 use Rattle.costing.specs.Arc.{Arc, arcOf, cost, exactCost}
 use Rattle.costing.specs.Offered.{Offered}
 
@@ -22,16 +22,6 @@ pub record Activity : Type 0 where
 infix 70 _from_to_
 abbrev pub _from_to_ : (option start end : ℕ) → Activity
 option from start to end = record { option = option; start = start; end = end }
-
--- the options by their numbers
-abbrev pub maintain : ℕ
-maintain = 0
-
-abbrev pub renovate : ℕ
-renovate = 1
-
-abbrev pub replace : ℕ
-replace = 2
 
 -- replacements from y to k1, k1 to k2 and so on
 unfoldable pub replacements : ℕ → List ℕ → List Activity
@@ -76,15 +66,19 @@ arcsOf p l = map (λ (a : Activity). arcOf p (a .option) (a .start) (a .end)) l
 
 -- what activities cost
 abbrev pub spent : PlanningSheet → List Activity → ℕ
-spent p l = total cost (arcsOf p l)
+spent p l = sumOf cost (arcsOf p l)
 
 abbrev pub arcs : PlanningSheet → Chain → List Arc
 arcs p c = arcsOf p (activities c)
 
 -- the rounded total is the sum of the arcs
 unfoldable pub roundedTotal : PlanningSheet → Chain → ℕ
-roundedTotal p c = total cost (arcs p c)
+roundedTotal p c = sumOf cost (arcs p c)
 
 -- the exact value adds the same payments as the arcs do, without rounding; it is over document 01's common denominator
 unfoldable pub exactValue : PlanningSheet → Chain → ℕ
-exactValue p c = total exactCost (arcs p c)
+exactValue p c = sumOf exactCost (arcs p c)
+
+-- the rounded total of replacements from year y with these ends
+abbrev pub replaced : PlanningSheet → ℕ → List ℕ → ℕ
+replaced p y ks = spent p (replacements y ks)

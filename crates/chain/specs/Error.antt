@@ -1,7 +1,7 @@
 -- How far a chain's rounded total may lie from its exact value. Definitions only.
 use Prim.Native.Nat.{ℕ, _+_, _*_, _≤_}
 use Rattle.sheet.specs.Sheet.{PlanningSheet}
-use Rattle.costing.specs.Exact.{common}
+use Rattle.steps.specs.Exact.{common}
 use Rattle.costing.specs.Error.{allowance}
 use Rattle.chain.specs.Chain.{Chain, exactValue}
 

@@ -1,8 +1,7 @@
--- What the code of a chain's total asks: years in order, none past T. `FeasibleLaws.antt` shows it of every feasible chain.
--- Definitions only.
+-- What pricing's code of a total asks: years in order, none past T. `FeasibleLaws.antt` shows it of every feasible chain. Definitions only.
 use Prim.Native.Nat.{ℕ, _≤_}
 use mathlib.Core.List.{List}
-use Rattle.costing.specs.Lists.{Every}
+use Rattle.base.specs.Lists.{Every}
 use Rattle.chain.specs.Chain.{Chain, Rising}
 
 -- y < k1 < k2 < .. < km ≤ T

@@ -1,39 +1,4 @@
-// Feasible chains, plan bytes and what a chain costs: document 01, 'Feasible chains' and 'Pricing and costing'.
-// The public call is `price`.
+// The bytes of a plan, written: document 01, 'Feasible chains'. Nothing here is a public call: `writing::write_plan` serves the planner, which
+// meets what it requires.
 
-ghost use mathlib.Core.Path.{_≡_};
-ghost use mathlib.Core.Logic.{_↔_};
-ghost use Prim.Native.Nat.{ℕ};
-ghost use Rattle.sheet.specs.Sheet.{sheetOf};
-ghost use Rattle.chain.specs.PlanBytes.{decode};
-ghost use Rattle.chain.specs.Pricing.{priced, PricedAt};
-ghost use Rattle.chain.specs.Error.{TotalNear};
-use checking::Answer;
-
-mod fitting;
-mod total;
-
-// The options by their numbers.
-const MAINTAIN: u64 = 0;
-
-const RENOVATE: u64 = 1;
-
-const REPLACE: u64 = 2;
-
-// The rounded total of the chain in plan bytes, whoever made them.
-pub fn price(sheet: &[u8], plan: &[u8]) -> Answer
-    ensures answer { λ r. ⌜ r ≡ priced (now (sheet .entry)) (now (plan .entry)) ⌝ }
-    ensures accepted { λ r. ⌜ ((total : ℕ) → ((r .number ≡ 0) × (r .total ≡ total)) ↔ PricedAt (now (sheet .entry)) (now (plan .entry)) total) ⌝ }
-    ensures near { λ r. ⌜ (r .number ≡ 0 → TotalNear (sheetOf (now (sheet .entry))) (decode (now (plan .entry))) (r .total)) ⌝ }
-{
-    let checked = checking::check(sheet);
-    if checked.number != 0 {
-        return checked;
-    }
-    let parsed = sheet::parse(sheet);
-    if !fitting::plan_fits(parsed, plan) {
-        return checking::refused(14, 3);
-    }
-    let units = total::plan_total(parsed, plan);
-    checking::accepted(units.0)
-}
+pub mod writing;

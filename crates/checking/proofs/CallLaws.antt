@@ -11,12 +11,12 @@ use mathlib.Core.Logic.{_↔_}
 use native.Mathlib.Omega.{arith}
 use lib.Dec.{eqb}
 use borrow.Author.Tests.{eqb-true}
-use Rattle.checking.specs.Answer.{accepted, refused, _orElse_, InTable}
+use Rattle.base.specs.Answer.{accepted, refused, _orElse_, InTable}
+use Rattle.base.specs.declared.Answer.{Answer}
+use Rattle.base.proofs.TestLaws.{by-test}
+use Rattle.base.proofs.AnswerLaws.{orElse-pass, orElse-stop, orElse-iff, orElse-all}
 use Rattle.checking.specs.Refusals.{checked}
 use Rattle.checking.specs.Passes.{Passes}
-use Rattle.checking.specs.declared.Answer.{Answer}
-use Rattle.checking.proofs.TestLaws.{by-test}
-use Rattle.checking.proofs.AnswerLaws.{orElse-pass, orElse-stop, orElse-iff, orElse-all}
 use Rattle.checking.proofs.PassesLaws.{checked-iff}
 use Rattle.checking.proofs.RangeLaws.{checked-total, checked-range}
 

@@ -1,22 +1,22 @@
 -- The check's two loops follow `checked`: one law for a turn of each loop, and one for each way out. Before them, that an answer which is
--- `checked` meets the contract (`met`), and how large the discount factor is (`discount-small`). Assumes nothing.
+-- `checked` meets the contract (`check-answers`), and how large the discount factor is (`discount-small`). Assumes nothing.
 use Prim.Native.Nat.{ℕ, _+_, _≤_, _<_}
 use mathlib.Core.Path.{_≡_, sym, _∙_}
 use mathlib.Core.List.{List}
 use mathlib.Core.Bool.{true, false}
 use mathlib.Core.Logic.{_↔_}
 use native.Mathlib.Omega.{arith}
+use Rattle.base.specs.Answer.{accepted, refused, _unless_else_, firstBelow}
+use Rattle.base.specs.declared.Answer.{Answer}
+use Rattle.base.proofs.AnswerLaws.{answered-some, orElse-stop, first-suc, first-found}
 use Rattle.sheet.specs.Sheet.{OptionRecord, sheetOf}
-use Rattle.checking.specs.Answer.{accepted, refused, _unless_else_, firstBelow}
-use Rattle.checking.specs.Refusals.{overhaulOk, overhaulAnswer, headerNumber, fieldsNumber, optionAnswer, checked}
+use Rattle.checking.specs.Refusals.{overhaulOk, headerNumber, fieldsNumber, overhaulAnswer, optionAnswer, checked}
 use Rattle.checking.specs.Passes.{Passes}
-use Rattle.checking.specs.declared.Answer.{Answer}
-use Rattle.checking.proofs.AnswerLaws.{first-suc, first-found, answered-some, orElse-stop}
 use Rattle.checking.proofs.PassesLaws.{header-iff, checked-iff}
 
 -- an answer a, which is b, is that of `checked`, and it accepts exactly the sheets that pass
-pub met : (s : List ℕ) (a b : Answer) → a ≡ b → b ≡ checked s → (a ≡ checked s) × ((a .number ≡ 0) ↔ Passes s)
-met s a b p q = (p ∙ q, rw (p ∙ q) (checked-iff s))
+pub check-answers : (s : List ℕ) (a b : Answer) → a ≡ b → b ≡ checked s → (a ≡ checked s) × ((a .number ≡ 0) ↔ Passes s)
+check-answers s a b p q = (p ∙ q, rw (p ∙ q) (checked-iff s))
 
 -- the discount factor of a sheet whose header passes
 pub discount-small : (s : List ℕ) (discount : ℕ) → discount ≡ 1_000_000 + sheetOf s .rate → headerNumber s ≡ 0 → discount ≤ 1_200_000

@@ -10,6 +10,7 @@ use lib.ListN.{getD}
 use lib.Dec.{eqb}
 use lib.IntN.{ℤ, pos, negℤ}
 use borrow.Author.Tests.{leb-true, eqb-true, eqb-false}
+use Rattle.base.proofs.TestLaws.{by-test, leZ-iff}
 use Rattle.sheet.specs.Sheet.{Expense, OptionRecord, sheetOf, factor}
 use Rattle.sheet.specs.Parsed.{flowOf, overhaulsOf, termsOf, parsed}
 use Rattle.sheet.proofs.FactorLaws.{factor-low, factor-high}
@@ -17,7 +18,6 @@ use Rattle.sheet.proofs.ParsedLaws.{getD-options, investment-ageing}
 use Rattle.checking.specs.Refusals.{ageBefore}
 use Rattle.checking.specs.Passes.{AmountPasses, InflationPasses, AgeingPasses, OptionPasses, Passes}
 use Rattle.checking.specs.Fit.{GrowFits, FlowFits, OverhaulsFit, TermsFit, Fit}
-use Rattle.checking.proofs.TestLaws.{by-test, leZ-iff}
 use Rattle.checking.proofs.RuleLaws.{entry-age, entry-amount}
 
 grow-fits : (r : ℕ) (f : ℤ) → InflationPasses r f → GrowFits (1_000_000 + r) (factor f)

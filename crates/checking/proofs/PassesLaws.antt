@@ -10,13 +10,13 @@ use lib.Dec.{lit<, ltb}
 use lib.ListN.{length, getD}
 use lib.IntN.{ℤ, pos, negℤ}
 use borrow.Author.Tests.{ltb-true, ltb-false}
+use Rattle.base.specs.Answer.{_unless_else_, firstBelow}
+use Rattle.base.proofs.TestLaws.{by-test, leb-iff, ltb-iff, eqb-iff, leZ-iff, both-iff, either-iff}
+use Rattle.base.proofs.AnswerLaws.{unless-iff, answered-iff, orElse-iff, first-iff}
 use Rattle.sheet.specs.Layout.{sheetLength}
 use Rattle.sheet.specs.Sheet.{Expense, OptionRecord, PlanningSheet, sheetOf, factor}
-use Rattle.checking.specs.Answer.{_unless_else_, firstBelow}
-use Rattle.checking.specs.Refusals.{inflationOk, inflationsOk, ageingOk, ageingsOk, ageBefore, overhaulOk, overhaulAnswer, headerNumber, fieldsNumber, optionAnswer, checked}
+use Rattle.checking.specs.Refusals.{inflationOk, inflationsOk, ageingOk, ageingsOk, ageBefore, overhaulOk, headerNumber, fieldsNumber, overhaulAnswer, optionAnswer, checked}
 use Rattle.checking.specs.Passes.{InflationPasses, AgeingPasses, UsedPasses, UnusedPasses, OptionPasses, HeaderPasses, Passes}
-use Rattle.checking.proofs.TestLaws.{by-test, leb-iff, ltb-iff, eqb-iff, leZ-iff, both-iff, either-iff}
-use Rattle.checking.proofs.AnswerLaws.{unless-iff, answered-iff, orElse-iff, first-iff}
 
 pub header-iff : (s : List ℕ) → (headerNumber s ≡ 0) ↔ HeaderPasses s
 unfolding headerNumber
@@ -40,13 +40,13 @@ header-iff s =
       λ h. (h .long, ((((h .mark .0, h .mark .1), h .mark .2), h .version), (h .horizon, (omega arith, refl)))),
     )
 
-pub inflation-iff : (r : ℕ) (f : ℤ) → (inflationOk r f ≡ true) ↔ InflationPasses r f
+inflation-iff : (r : ℕ) (f : ℤ) → (inflationOk r f ≡ true) ↔ InflationPasses r f
 unfolding inflationOk
 inflation-iff r f =
     Iff·trans (both-iff (leZ-iff (negℤ (pos 100_000)) f) (leZ-iff f (pos r)))
     (λ p. record { low = p .0; high = p .1 }, λ h. (h .low, h .high))
 
-pub ageing-iff : (r : ℕ) (e : Expense) → (ageingOk r e ≡ true) ↔ AgeingPasses r e
+ageing-iff : (r : ℕ) (e : Expense) → (ageingOk r e ≡ true) ↔ AgeingPasses r e
 unfolding ageingOk
 ageing-iff r e =
     Iff·trans
@@ -55,7 +55,7 @@ ageing-iff r e =
     (λ p. record { ageing = p .0; product = p .1 }, λ h. (h .ageing, h .product))
 
 -- an entry passes as a used one below the count, as an unused one from it on
-pub overhaul-iff :
+overhaul-iff :
     (o : OptionRecord) (j : ℕ) →
     (overhaulOk o j ≡ true) ↔ (((j < o .overhaulCount) × UsedPasses o j) ⊎ ((o .overhaulCount ≤ j) × UnusedPasses o j))
 unfolding overhaulOk
@@ -80,7 +80,7 @@ entry-iff o k j =
     (Iff·trans (unless-iff 9 (lit< tt) Iff·rfl Iff·rfl) (λ p. p .0, λ e. (e, refl)))
 
 -- all eight entries
-pub overhauls-iff :
+overhauls-iff :
     (o : OptionRecord) (k : ℕ) → o .overhaulCount ≤ 8 →
     ((j : ℕ) → j < 8 → overhaulAnswer o k j .number ≡ 0)
     ↔ (((j : ℕ) → j < o .overhaulCount → UsedPasses o j) × ((j : ℕ) → o .overhaulCount ≤ j → j < 8 → UnusedPasses o j))
@@ -98,7 +98,7 @@ overhauls-iff o k few = (
 )
 
 -- an option's record
-pub option-iff : (p : PlanningSheet) (k : ℕ) → (optionAnswer p k .number ≡ 0) ↔ OptionPasses (p .rate) (p .option k)
+option-iff : (p : PlanningSheet) (k : ℕ) → (optionAnswer p k .number ≡ 0) ↔ OptionPasses (p .rate) (p .option k)
 unfolding optionAnswer fieldsNumber inflationsOk ageingsOk
 option-iff p k =
     let o = p .option k in

@@ -4,11 +4,11 @@ use mathlib.Core.Path.{_≡_, refl}
 use mathlib.Core.List.{List}
 use native.Mathlib.Omega.{arith}
 use lib.Dec.{lit≤}
+use Rattle.base.specs.Answer.{accepted, refused, InTable}
+use Rattle.base.specs.declared.Answer.{Answer}
+use Rattle.base.proofs.AnswerLaws.{unless-le, answered-all, orElse-all, first-all}
 use Rattle.sheet.specs.Sheet.{OptionRecord, PlanningSheet, sheetOf}
-use Rattle.checking.specs.Answer.{accepted, refused, InTable}
-use Rattle.checking.specs.Refusals.{overhaulAnswer, headerNumber, fieldsNumber, optionAnswer, checked}
-use Rattle.checking.specs.declared.Answer.{Answer}
-use Rattle.checking.proofs.AnswerLaws.{unless-le, answered-all, orElse-all, first-all}
+use Rattle.checking.specs.Refusals.{headerNumber, fieldsNumber, overhaulAnswer, optionAnswer, checked}
 
 header-le : (s : List ℕ) → headerNumber s ≤ 9
 unfolding headerNumber

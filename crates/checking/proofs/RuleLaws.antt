@@ -10,12 +10,12 @@ use lib.ListN.{getD}
 use lib.Dec.{leb, ltb, eqb}
 use lib.IntN.{ℤ}
 use borrow.Author.Tests.{ltb-true, lt-ltb, le-ltb, le-leb, lt-leb}
+use Rattle.base.proofs.ListsLaws.{getD-listed}
 use Rattle.sheet.specs.Sheet.{Expense, OptionRecord, factor}
 use Rattle.sheet.specs.Parsed.{flowOf, overhaulsOf}
 use Rattle.sheet.specs.declared.Flow.{Flow}
 use Rattle.sheet.specs.declared.Overhauls.{Overhauls}
 use Rattle.sheet.proofs.FactorLaws.{factor-low, factor-high}
-use Rattle.sheet.proofs.ParsedLaws.{getD-listed}
 use Rattle.checking.specs.Refusals.{inflationOk, ageingOk, entryOk, ageBefore, overhaulOk}
 
 -- 7

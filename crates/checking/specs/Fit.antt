@@ -1,11 +1,14 @@
 -- What passing the checks gives of the parsed sheet, in the code's own terms: the facts that later layers use instead of the check.
--- `FitLaws.antt` derives them. Definitions only.
+-- `FitLaws.antt` derives `Fit`; `SheetFits` adds the planning sheet of which it is the parsed form. Definitions only.
 use Prim.Native.Nat.{ℕ, _*_, _≤_, _<_}
+use mathlib.Core.Path.{_≡_}
 use lib.ListN.{getD}
+use Rattle.sheet.specs.Sheet.{PlanningSheet}
+use Rattle.sheet.specs.Parsed.{parsed}
 use Rattle.sheet.specs.declared.Flow.{Flow}
 use Rattle.sheet.specs.declared.Overhauls.{Overhauls}
-use Rattle.sheet.specs.declared.Terms.{Terms}
 use Rattle.sheet.specs.declared.Sheet.{Sheet}
+use Rattle.sheet.specs.declared.Terms.{Terms}
 
 -- a factor of an inflation, against the discount factor
 pub record GrowFits (discount grow : ℕ) : Type 0 where
@@ -46,3 +49,9 @@ pub record Fit (p : Sheet) : Type 0 where
   pub discountLow : 1_000_000 ≤ p .discount
   pub discountHigh : p .discount ≤ 1_200_000
   pub options : (k : ℕ) (other : Terms) → k < 3 → TermsFit (p .discount) (getD (p .options) k other)
+
+-- a sheet as the code holds it: it fits, and it is the parsed form of a planning sheet
+pub record SheetFits (p : Sheet) : Type 0 where
+  pub fit : Fit p
+  pub sheet : PlanningSheet
+  pub read : p ≡ parsed sheet

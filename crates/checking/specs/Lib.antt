@@ -1,5 +1,4 @@
--- The definitions of checking, in reading order: what a call answers, refusals 1 to 9, which sheets pass, and what passing gives.
-pub mod Answer
+-- The definitions of checking, in reading order: refusals 1 to 9, which sheets pass, and what passing gives.
 pub mod Refusals
 pub mod Passes
 pub mod Fit

@@ -8,10 +8,10 @@ use lib.ListN.{length, getD}
 use lib.Dec.{leb, ltb, eqb}
 use lib.IntN.{ℤ, pos, negℤ}
 use lib.Signed.{leZ}
+use Rattle.base.specs.Answer.{answered, _unless_else_, _orElse_, firstBelow}
+use Rattle.base.specs.declared.Answer.{Answer}
 use Rattle.sheet.specs.Layout.{sheetLength}
 use Rattle.sheet.specs.Sheet.{Expense, OptionRecord, PlanningSheet, sheetOf, factor}
-use Rattle.checking.specs.Answer.{answered, _unless_else_, _orElse_, firstBelow}
-use Rattle.checking.specs.declared.Answer.{Answer}
 
 -- 2: the mark, `RCS` in ASCII, and the version
 abbrev pub markOk : List ℕ → Bool

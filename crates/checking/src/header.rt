@@ -4,7 +4,7 @@ ghost use mathlib.Core.Path.{_≡_};
 ghost use lib.ListN.{length};
 ghost use Rattle.sheet.specs.Layout.{sheetLength};
 ghost use Rattle.checking.specs.Refusals.{markOk, headerNumber};
-use sheet::fields;
+use base::numbers;
 
 fn mark_ok(s: &[u8]) -> bool
     requires { ⌜ length (now s) ≡ sheetLength ⌝ }
@@ -20,7 +20,7 @@ pub fn header_number(s: &[u8]) -> u8
     if s.len() != sheet::SHEET_LENGTH {
         return 1;
     }
-    let version = fields::u16_at(s, 3);
+    let version = numbers::u16_at(s, 3);
     if !(mark_ok(s) & (version == 1)) {
         return 2;
     }
@@ -28,7 +28,7 @@ pub fn header_number(s: &[u8]) -> u8
     if !((1 <= horizon) & (horizon <= 300)) {
         return 3;
     }
-    let rate = fields::u32_at(s, 7);
+    let rate = numbers::u32_at(s, 7);
     if rate > 200_000 {
         return 4;
     }

@@ -1,42 +1,17 @@
 // Checking a planning sheet: refusals 1 to 9 of document 01's 'Refusal table'.
-// The public call is `check`. `Answer` is what every call of the library answers.
+// The public call is `check`.
 
 ghost use mathlib.Core.Path.{_≡_};
 ghost use mathlib.Core.Logic.{_↔_};
-ghost use Rattle.checking.specs.Answer.{accepted, refused};
+ghost use Rattle.base.specs.Answer.{accepted, refused};
 ghost use Rattle.checking.specs.Refusals.{checked};
 ghost use Rattle.checking.specs.Passes.{Passes};
+use base::Answer;
+use base::accepted;
+use base::refused;
 
 mod header;
 mod option;
-
-// Number 0 and option 3: accepted, with the total. Any other number: refused, with total 0.
-pub struct Answer {
-    pub total: u64,
-    pub number: u8,
-    pub option: u8,
-}
-
-// An accepted call, and a refused one. They serve the crates above too.
-pub fn accepted(total: u64) -> Answer
-    ensures { λ r. ⌜ r ≡ accepted total ⌝ }
-{
-    Answer {
-        total: total,
-        number: 0,
-        option: 3,
-    }
-}
-
-pub fn refused(number: u8, option: u8) -> Answer
-    ensures { λ r. ⌜ r ≡ refused number option ⌝ }
-{
-    Answer {
-        total: 0,
-        number: number,
-        option: option,
-    }
-}
 
 // The first refusal of a sheet: 1 to 4, then option by option and, inside one, overhaul by overhaul, each of which is read where it is
 // tested.

@@ -8,7 +8,7 @@ use native.Mathlib.Nat.{add-zero, add-suc, le-refl, le-of-suc-le-suc, eq-or-lt-o
 use native.Mathlib.Decide.{decLe}
 use native.Mathlib.Omega.{arith}
 use Rattle.choice.specs.Choice.{Before, NotWorse, Chosen}
-use Rattle.choice.specs.Running.{Entry, noTotal, noEntry, weigh, over, Holds, none, some, Then, thenWeight}
+use Rattle.choice.specs.Running.{Entry, noTotal, noEntry, entries, weigh, overEnds, Holds, Then, thenWeight, none, some}
 use Rattle.choice.proofs.ChoiceLaws.{chosen-le}
 use Rattle.choice.proofs.HoldsLaws.{holds-chosen, holds-least, holds-same}
 use Rattle.choice.proofs.RunningLaws.{weigh-none, weigh-take, weigh-keep, over-zero, over-offered, over-passed}
@@ -81,31 +81,31 @@ module _ (offered : ℕ → Bool) (cost : ℕ → ℕ) (behind : ℕ → Entry) 
             })
             (b .1) (b .2)
 
-      below-weigh : offered e ≡ true → Holds (Rest e) (rest e) (room e) (behind e) → HoldsBelow (suc e) (weigh best (cost e) e (behind e))
-      below-weigh on (none q never) = rw (weigh-none best (cost e) e (behind e) (rw q)) (below-none (λ xs m. never xs (m .1)))
+      below-weigh : offered e ≡ true → Holds (Rest e) (rest e) (room e) (behind e) → HoldsBelow (suc e) (weigh entries best (cost e) e (behind e))
+      below-weigh on (none q never) = rw (weigh-none entries best (cost e) e (behind e) (rw q)) (below-none (λ xs m. never xs (m .1)))
       below-weigh on (some c q r) =
           let there : behind e .total ≡ noTotal → ⊥ = λ n. omega (arith, fits e on) in
           by-cases (decLe (cost e + behind e .total) (best .total))
-          (λ l. rw (weigh-take best (cost e) e (behind e) there l) (below-take on c q r l))
-          (λ n. let l = lt-of-not-le n in rw (weigh-keep best (cost e) e (behind e) there l) (below-keep on c q r l))
+          (λ l. rw (weigh-take entries best (cost e) e (behind e) there l) (below-take on c q r l))
+          (λ n. let l = lt-of-not-le n in rw (weigh-keep entries best (cost e) e (behind e) there l) (below-keep on c q r l))
 
     module _ (s k : ℕ) (inside : (e : ℕ) → offered e ≡ true → (s ≤ e) × (e < s + k)) where
       -- the choice after n ends is the entry of the lists below s + n
-      below-over : (n : ℕ) → HoldsBelow (s + n) (over offered cost behind s noEntry n)
-      below-over zero = rw (over-zero, add-zero) (none refl nothing)
+      below-over : (n : ℕ) → HoldsBelow (s + n) (overEnds entries offered cost behind s noEntry n)
+      below-over zero = rw (over-zero entries, add-zero) (none refl nothing)
         where
           nothing : (xs : List ℕ) → Below s xs → ⊥
           nothing [] m = m
           nothing (x ∷ xs) m = omega (arith, m .0, inside x (m .1 .0) .0)
       below-over (suc n) =
           let e = s + n in
-          let best = over offered cost behind s noEntry n in
+          let best = overEnds entries offered cost behind s noEntry n in
           rw (add-suc s n)
           (by-cases (Bool-discrete (offered e) true)
-          (λ on. rw (over-offered _ _ _ s _ n on) (below-weigh e best (below-over n) on (held e on)))
-          (λ off. rw (over-passed _ _ _ s _ n (not-eq-not .0 off)) (below-none e best (below-over n) (λ xs m. off (m .0)))))
+          (λ on. rw (over-offered entries _ _ _ s _ n on) (below-weigh e best (below-over n) on (held e on)))
+          (λ off. rw (over-passed entries _ _ _ s _ n (not-eq-not .0 off)) (below-none e best (below-over n) (λ xs m. off (m .0)))))
 
-      pub over-holds : Holds (Then offered Rest) (thenWeight cost rest) bound (over offered cost behind s noEntry k)
+      pub over-holds : Holds (Then offered Rest) (thenWeight cost rest) bound (overEnds entries offered cost behind s noEntry k)
       over-holds = holds-same (Below (s + k)) (Then offered Rest) _ _ same (λ xs m. refl) bound _ (below-over k)
         where
           same : (xs : List ℕ) → Below (s + k) xs ↔ Then offered Rest xs

@@ -18,19 +18,40 @@ noTotal = 2 ^ 64 - 1
 abbrev pub noEntry : Entry
 noEntry = record { total = noTotal; ends = [] }
 
--- the choice so far, `best`, after an arc of that cost to year e with the entry `behind` it. Where there is none behind it, nothing changes;
--- else the sum is taken if it is no larger: ends ascend, so of equal totals the later year is taken.
-unfoldable pub weigh : (best : Entry) (cost e : ℕ) (behind : Entry) → Entry
-weigh best cost e behind =
-    cond (eqb (behind .total) noTotal) best
-    (cond (leb (cost + behind .total) (best .total)) (record { total = cost + behind .total; ends = e ∷ behind .ends }) best)
+-- what a loop keeps: of the choice so far, of which it reads the total, and of what stands behind an end, of which it reads the total too; and
+-- what it keeps of an arc to year e that is taken, with a total and what stands behind it
+pub record Keeping : Type 1 where
+  pub Choice : Type 0
+  pub Behind : Type 0
+  pub total : Choice → ℕ
+  pub left : Behind → ℕ
+  pub taken : (total e : ℕ) → Behind → Choice
 
--- the choice after the k ends s, s + 1, .., of which those that are offered are weighed: what the arc to each costs, and the entry behind it
-unfoldable pub over : (offered : ℕ → Bool) (cost : ℕ → ℕ) (behind : ℕ → Entry) (s : ℕ) (best : Entry) (k : ℕ) → Entry
-over offered cost behind s best zero = best
-over offered cost behind s best (suc k) =
-    let so-far = over offered cost behind s best k in
-    cond (offered (s + k)) (weigh so-far (cost (s + k)) (s + k) (behind (s + k))) so-far
+-- whole entries: the list begins with e and goes on as the one behind it
+abbrev pub entries : Keeping
+entries =
+    record {
+      Choice = Entry;
+      Behind = Entry;
+      total = λ t. t .total;
+      left = λ t. t .total;
+      taken = λ total e behind. record { total = total; ends = e ∷ behind .ends };
+    }
+
+-- the choice so far, `best`, after an arc of that cost to year e with `behind` it. Where there is no total behind it, nothing changes; else the
+-- sum is taken if it is no larger: ends ascend, so of equal totals the later year is taken.
+unfoldable pub weigh : (K : Keeping) (best : K .Choice) (cost e : ℕ) (behind : K .Behind) → K .Choice
+weigh K best cost e behind =
+    cond (eqb (K .left behind) noTotal) best
+    (cond (leb (cost + K .left behind) (K .total best)) (K .taken (cost + K .left behind) e behind) best)
+
+-- the choice after the k ends s, s + 1, .., of which those that are offered are weighed: what the arc to each costs, and what stands behind it
+unfoldable pub overEnds :
+    (K : Keeping) (offered : ℕ → Bool) (cost : ℕ → ℕ) (behind : ℕ → K .Behind) (s : ℕ) (best : K .Choice) (k : ℕ) → K .Choice
+overEnds K offered cost behind s best zero = best
+overEnds K offered cost behind s best (suc k) =
+    let so-far = overEnds K offered cost behind s best k in
+    cond (offered (s + k)) (weigh K so-far (cost (s + k)) (s + k) (behind (s + k))) so-far
 
 -- an entry is that of a set of lists: there is none, or it has the list chosen and its weight, which is at most a bound
 pub data Holds (S : List ℕ → Type 0) (weight : List ℕ → ℕ) (bound : ℕ) (t : Entry) : Type 0 where

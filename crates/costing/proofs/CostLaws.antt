@@ -6,20 +6,22 @@ use mathlib.Core.List.{List}
 use mathlib.Core.Bool.{Bool, true, false}
 use mathlib.Core.Logic.{_↔_}
 use native.Mathlib.Omega.{arith}
+use Rattle.base.specs.Lists.{Every}
+use Rattle.base.specs.Answer.{accepted, refused, InTable, totalBound}
+use Rattle.base.specs.declared.Answer.{Answer}
 use Rattle.sheet.specs.Sheet.{sheetOf}
-use Rattle.checking.specs.Answer.{accepted, refused, InTable}
 use Rattle.checking.specs.Refusals.{checked}
 use Rattle.checking.specs.Passes.{Passes}
-use Rattle.checking.specs.declared.Answer.{Answer}
 use Rattle.checking.proofs.CallLaws.{call-refused, call-stopped, call-passed, call-iff, call-total, call-range, call-lt}
 use Rattle.checking.proofs.FitLaws.{fit}
-use Rattle.costing.specs.Lists.{Every}
+use Rattle.steps.specs.Error.{PaymentNear}
 use Rattle.costing.specs.Arc.{arcOf, payments, cost}
 use Rattle.costing.specs.Offered.{offered, Offered}
 use Rattle.costing.specs.Costing.{costing, costed}
-use Rattle.costing.specs.Error.{PaymentNear, WithinAllowance}
+use Rattle.costing.specs.Error.{WithinAllowance}
+use Rattle.costing.specs.Fit.{ArcFits}
+use Rattle.costing.proofs.ErrorOfArc.{payments-error, arc-error}
 use Rattle.costing.proofs.SheetArcLaws.{arc-fits, cost-le}
-use Rattle.costing.proofs.ErrorOfArc.{ArcFits, payments-error, arc-error}
 use Rattle.costing.proofs.OfferedLaws.{offered-iff}
 
 module _ (s : List ℕ) (option start end : ℕ) where
@@ -67,32 +69,32 @@ module _ (s : List ℕ) (option start end : ℕ) where
   costed-cost = call-total s rule 13 units (omega arith)
 
   -- which lies within the allowance of its years
-  pub costed-near :
+  costed-near :
       costed s option start end .number ≡ 0 → WithinAllowance (arcOf (sheetOf s) option start end) (costed s option start end .total)
   costed-near e =
       let h = costed-iff .0 e in
       rw (costed-cost e) (arc-error (arcOf (sheetOf s) option start end) (arc-of (h .0) (h .1)))
 
   -- what was answered, when it is an acceptance, and how near the cost then is
-  pub met :
+  pub cost-answers :
       (a : Answer) → a ≡ costed s option start end
       → (a ≡ costed s option start end)
       × (((a .number ≡ 0) ↔ (Passes s × Offered (sheetOf s) option start end))
       × (a .number ≡ 0 → WithinAllowance (arcOf (sheetOf s) option start end) (a .total)))
-  met a e = (e, (rw e costed-iff, rw e costed-near))
+  cost-answers a e = (e, (rw e costed-iff, rw e costed-near))
 
   pub costed-range : InTable (costed s option start end)
   unfolding costed costing
   costed-range = call-range s rule 13 units (omega arith)
 
-  cost-lt : Passes s → Offered (sheetOf s) option start end → cost (arcOf (sheetOf s) option start end) < 72_057_594_037_927_936
+  cost-lt : Passes s → Offered (sheetOf s) option start end → cost (arcOf (sheetOf s) option start end) < totalBound
   cost-lt h o =
       let horizon = h .header .horizon .1 in
       omega (arith, cost-le (sheetOf s) option start end (fit s h) (o .known) (o .forward) (o .inside))
 
   -- the total and the number fit in 64 bits together: 2^56 is the first total that does not
-  pub costed-lt : costed s option start end .total < 72_057_594_037_927_936
+  pub costed-lt : costed s option start end .total < totalBound
   unfolding costed costing
   costed-lt =
-      call-lt s rule 13 units 72_057_594_037_927_936 (omega arith)
+      call-lt s rule 13 units totalBound (omega arith)
       (λ h e. cost-lt h (offered-iff (sheetOf s) option start end .0 e))

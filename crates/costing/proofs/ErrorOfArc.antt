@@ -9,28 +9,23 @@ use native.Mathlib.Nat.{mul-le-mul-left, add-zero, add-suc}
 use native.Mathlib.Omega.{arith}
 use lib.Dec.{ltb, eqb}
 use borrow.Author.Tests.{ltb-true, eqb-true, ne-eqb}
+use Rattle.base.specs.Lists.{Every, sumOf}
+use Rattle.base.proofs.TestLaws.{by-test}
+use Rattle.base.proofs.ListsLaws.{every-map, every-append}
 use Rattle.sheet.specs.declared.Flow.{Flow}
 use Rattle.checking.specs.Fit.{FlowFits}
-use Rattle.checking.proofs.TestLaws.{by-test}
-use Rattle.costing.specs.Lists.{total, Every}
-use Rattle.costing.specs.declared.Kept.{Kept}
-use Rattle.costing.specs.Step.{above, below}
-use Rattle.costing.specs.Payment.{Payment, year}
-use Rattle.costing.specs.Exact.{_over_, common}
-use Rattle.costing.specs.Arc.{Arc, once, inYear, investment, maintenance, electricity, ageOf, overhaul, forEach, when}
-use Rattle.costing.specs.Arc.{overhaulsBelow, paid, payments, cost, exactCost}
+use Rattle.steps.specs.Step.{above, below}
+use Rattle.steps.specs.Payment.{Payment, year, once}
+use Rattle.steps.specs.Exact.{_over_, common}
+use Rattle.steps.specs.Error.{NearBy, halves, PaymentNear}
+use Rattle.steps.specs.Fit.{Sound}
+use Rattle.steps.proofs.ErrorOfPayment.{payment-error, total-error}
+use Rattle.costing.specs.Arc.{Arc, inYear, investment, maintenance, electricity, ageOf, overhaul, forEach, paidIf, overhaulsBelow, paid, payments, cost, exactCost}
+use Rattle.costing.specs.Error.{allowance, WithinAllowance}
+use Rattle.costing.specs.Fit.{KeptFits, ArcFits, Between}
 use Rattle.costing.specs.Walk.{atAge, overhaulsAt, added, walked}
-use Rattle.costing.specs.Error.{NearBy, halves, PaymentNear, allowance, WithinAllowance}
-use Rattle.costing.specs.Fit.{KeptFits}
-use Rattle.costing.proofs.ListsLaws.{every-map, every-append}
-use Rattle.costing.proofs.SumLaws.{forEach-zero, forEach-suc, forEach-none, when-true, when-false}
-use Rattle.costing.proofs.SumLaws.{added-total, walked-zero, walked-suc, walked-paid, paid-zero}
-use Rattle.costing.proofs.ErrorOfPayment.{Sound, payment-error, total-error}
-
--- an arc of an option that passes the checks, by the horizon
-pub record ArcFits (a : Arc) : Type 0 where
-  pub kept : KeptFits (a .kept)
-  pub inside : a .kept .from + a .years ≤ a .horizon
+use Rattle.costing.specs.declared.Kept.{Kept}
+use Rattle.costing.proofs.SumLaws.{forEach-zero, forEach-suc, forEach-none, paidIf-true, paidIf-false, added-total, walked-zero, walked-suc, paid-zero, walked-paid}
 
 module _ (S : Payment → Type 0) where
   every-forEach : (n : ℕ) (f : ℕ → List Payment) → ((j : ℕ) → j < n → Every S (f j)) → Every S (forEach n f)
@@ -38,8 +33,8 @@ module _ (S : Payment → Type 0) where
   every-forEach zero f h = tt
   every-forEach (suc n) f h = every-append S (forEach n f) (f n) (every-forEach n f (λ j l. h j (omega arith))) (h n (omega arith))
 
-  every-when : (test : Bool) (p : Payment) → (test ≡ true → S p) → Every S (when test p)
-  unfolding when
+  every-when : (test : Bool) (p : Payment) → (test ≡ true → S p) → Every S (paidIf test p)
+  unfolding paidIf
   every-when true p h = (h refl, tt)
   every-when false p h = tt
 
@@ -104,34 +99,34 @@ module _ (k : Kept) (ok : KeptFits k) where
   overhaul-halves i = omega arith
 
   -- before an overhaul of age n there is no other of that age
-  atAge-before : (n i : ℕ) → i < k .terms .overhauls .count → ageOf k i ≡ n → total halves (forEach i (atAge k n)) ≡ 0
+  atAge-before : (n i : ℕ) → i < k .terms .overhauls .count → ageOf k i ≡ n → sumOf halves (forEach i (atAge k n)) ≡ 0
   atAge-before n i l e =
       forEach-none halves i (atAge k n) (λ j m.
       let younger = ageOf-rising j i m l in
-      rw (ne-eqb (ageOf k j) n (λ d. omega arith)) (when-false halves (overhaul k j)))
+      rw (ne-eqb (ageOf k j) n (λ d. omega arith)) (paidIf-false halves (overhaul k j)))
 
   -- so at most one of the first i overhauls has age n
-  atAge-halves : (n i : ℕ) → i ≤ k .terms .overhauls .count → total halves (forEach i (atAge k n)) ≤ k .from + n
+  atAge-halves : (n i : ℕ) → i ≤ k .terms .overhauls .count → sumOf halves (forEach i (atAge k n)) ≤ k .from + n
   atAge-halves n zero l = rw (forEach-zero halves) (omega arith)
   atAge-halves n (suc i) l =
       rw (forEach-suc halves)
       (by-test (eqb (ageOf k i) n)
       (λ t.
       let e = eqb-true (ageOf k i) n t in
-      rw (atAge-before n i l e, t, when-true halves, overhaul-halves i) (omega arith))
-      (λ t. rw (t, when-false halves) (omega (arith, atAge-halves n i (omega arith)))))
+      rw (atAge-before n i l e, t, paidIf-true halves, overhaul-halves i) (omega arith))
+      (λ t. rw (t, paidIf-false halves) (omega (arith, atAge-halves n i (omega arith)))))
 
-  overhaulsAt-halves : (n : ℕ) → total halves (overhaulsAt k n) ≤ k .from + n
+  overhaulsAt-halves : (n : ℕ) → sumOf halves (overhaulsAt k n) ≤ k .from + n
   unfolding overhaulsAt
   overhaulsAt-halves n = atAge-halves n (k .terms .overhauls .count) (omega arith)
 
   -- What year n adds: one overhaul at most, and two flows. From a start t these give 3t + 5n + 4; the allowance has room for 4t.
-  added-halves : (n : ℕ) → total halves (added k n) ≤ 4 * k .from + 5 * n + 4
+  added-halves : (n : ℕ) → sumOf halves (added k n) ≤ 4 * k .from + 5 * n + 4
   unfolding maintenance electricity inYear halves
   added-halves n = rw (added-total halves) (omega (arith, overhaulsAt-halves n))
 
   -- by induction over the years
-  walked-halves : (n : ℕ) → 2 * total halves (walked k (suc n)) + allowance (k .from) ≤ allowance (k .from + suc n)
+  walked-halves : (n : ℕ) → 2 * sumOf halves (walked k (suc n)) + allowance (k .from) ≤ allowance (k .from + suc n)
   walked-halves zero =
       rw (walked-suc halves, walked-zero halves, add-suc (k .from) 0, add-zero (k .from))
       (unfold investment once halves in omega (arith, added-halves 0, allowance-suc (k .from)))
@@ -139,14 +134,9 @@ module _ (k : Kept) (ok : KeptFits k) where
       rw (walked-suc halves, add-suc (k .from) (suc n))
       (omega (arith, walked-halves n, added-halves (suc n), allowance-suc (k .from + suc n)))
 
-  paid-halves : (n : ℕ) → 2 * total halves (paid k n) + allowance (k .from) ≤ allowance (k .from + n)
+  paid-halves : (n : ℕ) → 2 * sumOf halves (paid k n) + allowance (k .from) ≤ allowance (k .from + n)
   paid-halves zero = rw (paid-zero halves, add-zero (k .from)) (omega arith)
   paid-halves (suc n) = rw (walked-paid halves) (walked-halves n)
-
--- units against e / D: four times the difference is at most B − A, both ways
-pub record Between (units e D A B : ℕ) : Type 0 where
-  pub high : 4 * (units * D) + above * (A * D) ≤ 4 * e + above * (B * D)
-  pub low : 4 * e + below * (A * D) ≤ 4 * (units * D) + below * (B * D)
 
 -- what lies between A and B and what lies between B and C add up to what lies between A and C
 pub between-add : {a b e f D A B C : ℕ} → Between a e D A B → Between b f D B C → Between (a + b) (e + f) D A C
@@ -161,7 +151,7 @@ pub arc-between :
     (allowance (a .kept .from)) (allowance (a .kept .from + a .years))
 unfolding cost exactCost payments
 arc-between a ok =
-    between-near (total halves (paid (a .kept) (a .years)))
+    between-near (sumOf halves (paid (a .kept) (a .years)))
     (total-error (a .horizon) (a .kept .discount) _ (paid-sound (a .horizon) (a .kept) (ok .kept) (a .years) (ok .inside)))
     (paid-halves (a .kept) (ok .kept) (a .years))
 

@@ -1,18 +1,17 @@
--- Laws of `offered`: the test and the facts agree (`offered-iff`), and its two parts. Assumes nothing.
-use Prim.Native.Nat.{ℕ, _-_, _≤_}
+-- Laws of `offered`: the tests and the facts agree (`placed-iff`, `offered-iff`); of an arc that is well placed the length decides
+-- (`offered-in`); and the test as the code reads it (`offered-read`). Assumes nothing.
+use Prim.Native.Nat.{ℕ, _-_, _≤_, min}
 use mathlib.Core.Path.{_≡_}
-use mathlib.Core.Bool.{true, false}
+use mathlib.Core.Bool.{true, _&&_}
 use mathlib.Core.Logic.{_↔_, _⊎_, inl, inr, ⊎-elim}
 use native.Mathlib.Omega.{arith}
 use lib.Dec.{leb}
 use borrow.Author.Tests.{leb-true, leb-false}
+use Rattle.base.proofs.TestLaws.{by-test, leb-iff, eqb-iff, both-iff, either-iff}
 use Rattle.sheet.specs.Sheet.{PlanningSheet}
-use Rattle.checking.proofs.TestLaws.{by-test, leb-iff, eqb-iff, both-iff, either-iff}
-use Rattle.costing.specs.Offered.{placed, lengthOffered, offered, Offered}
-
--- what `placed` tests
-abbrev pub Placed : (horizon option start end : ℕ) → Type 0
-Placed horizon option start end = (((option ≤ 2) × (end ≤ horizon)) × (start ≤ end)) × ((1 ≤ option) ⊎ (start ≡ 0))
+use Rattle.sheet.specs.Parsed.{termsOf}
+use Rattle.sheet.specs.declared.Terms.{Terms}
+use Rattle.costing.specs.Offered.{placed, lengthOffered, offered, Placed, Offered}
 
 pub placed-iff : (horizon option start end : ℕ) → (placed horizon option start end ≡ true) ↔ Placed horizon option start end
 placed-iff horizon option start end =
@@ -27,16 +26,30 @@ length-iff shortest longest option n =
     (both-iff (eqb-iff n 0) (leb-iff option 1))
 
 module _ (p : PlanningSheet) (option start end : ℕ) where
-  -- an arc that is not well placed is not offered; of one that is, the length decides
-  pub offered-out : placed (p .horizon) option start end ≡ false → offered p option start end ≡ false
-  unfolding offered
-  offered-out e = rw e
-
+  -- of an arc that is well placed the length decides
   pub offered-in :
       placed (p .horizon) option start end ≡ true
       → offered p option start end ≡ lengthOffered (p .option option .shortest) (p .option option .longest) option (end - start)
   unfolding offered
   offered-in e = rw e
+
+  -- an option above 2 is not placed, whatever terms are read for it
+  offered-known :
+      (k : ℕ) → k ≡ min option 2
+      → placed (p .horizon) option start end && lengthOffered (p .option k .shortest) (p .option k .longest) option (end - start)
+      ≡ offered p option start end
+  unfolding offered
+  offered-known k e =
+      by-test (leb option 2)
+      (λ t. let l = leb-true option 2 t in let same : k ≡ option = omega arith in rw same)
+      (λ t. rw t)
+
+  -- as the code reads them
+  pub offered-read :
+      (k : ℕ) {T : ℕ} {t : Terms} → k ≡ min option 2 → T ≡ p .horizon → t ≡ termsOf (p .option k)
+      → placed T option start end && lengthOffered (t .shortest) (t .longest) option (end - start) ≡ offered p option start end
+  unfolding termsOf
+  offered-read k e horizon terms = rw (horizon, terms) (offered-known k e)
 
   from-zero : (option ≡ 0 → start ≡ 0) → (1 ≤ option) ⊎ (start ≡ 0)
   from-zero h =

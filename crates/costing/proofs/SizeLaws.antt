@@ -1,5 +1,5 @@
--- How large the figures of an arc can be, if its option passes the checks: a payment at most `most` units, an arc at most 11 payments a
--- year. Assumes nothing.
+-- How large the figures of an arc can be, if its option passes the checks: a payment at most `largestPayment` units, an arc at most 11
+-- payments a year. Assumes nothing.
 use Prim.Native.Nat.{ℕ, zero, suc, _+_, _*_, _≤_, _<_}
 use mathlib.Core.List.{List}
 use mathlib.Core.Bool.{Bool, true, false}
@@ -7,23 +7,20 @@ use native.Mathlib.Omega.{arith}
 use native.Mathlib.Nat.{le-trans}
 use lib.Dec.{eqb}
 use lib.ListN.{getD}
+use Rattle.base.specs.Lists.{sumOf}
 use Rattle.sheet.specs.declared.Flow.{Flow}
 use Rattle.checking.specs.Fit.{FlowFits}
-use Rattle.costing.specs.Lists.{total}
-use Rattle.costing.specs.Step.{plain, repeated}
-use Rattle.costing.specs.Payment.{Payment, rounded}
-use Rattle.costing.specs.Arc.{once, inYear, investment, maintenance, electricity, ageOf, overhaul, forEach, when, paid, worth}
-use Rattle.costing.specs.Fit.{ServiceFits, KeptFits, most, yearly}
+use Rattle.steps.specs.Step.{plain, repeated}
+use Rattle.steps.specs.Payment.{Payment, rounded}
+use Rattle.steps.specs.Fit.{largestPayment, ServiceFits}
+use Rattle.steps.proofs.RoomLaws.{services-le, plains-le, once-le}
+use Rattle.costing.specs.Arc.{inYear, investment, maintenance, electricity, ageOf, overhaul, forEach, paidIf, paid, worth}
+use Rattle.costing.specs.Fit.{yearly, KeptFits}
 use Rattle.costing.specs.Walk.{atAge, overhaulsAt, added, walked}
 use Rattle.costing.specs.declared.Kept.{Kept}
-use Rattle.costing.proofs.RoomLaws.{plains-le, services-le}
 use Rattle.costing.proofs.SumLaws as Sum
 
-pub once-le : (discount amount grow year : ℕ) → 0 < discount → grow ≤ discount → rounded discount (once amount grow year) ≤ amount * 10_000
-unfolding rounded once repeated
-once-le discount amount grow year positive grown = plains-le grow discount positive grown year (amount * 10_000)
-
-pub inYear-le :
+inYear-le :
     (discount : ℕ) (w : Flow) (t k : ℕ) → 0 < discount → FlowFits discount w → rounded discount (inYear w t k) ≤ w .amount * 10_000 + k
 unfolding rounded inYear
 inYear-le discount w t k positive h =
@@ -44,12 +41,12 @@ inYear-fits discount w t k low high h few =
       product = h .product;
     }
 
-when-le : (φ : Payment → ℕ) (holds : Bool) (p : Payment) → total φ (when holds p) ≤ φ p
-when-le φ true p = rw (Sum.when-true φ p) (omega arith)
-when-le φ false p = rw (Sum.when-false φ p) (omega arith)
+when-le : (φ : Payment → ℕ) (holds : Bool) (p : Payment) → sumOf φ (paidIf holds p) ≤ φ p
+when-le φ true p = rw (Sum.paidIf-true φ p) (omega arith)
+when-le φ false p = rw (Sum.paidIf-false φ p) (omega arith)
 
 forEach-le :
-    (φ : Payment → ℕ) (b n : ℕ) (f : ℕ → List Payment) → ((j : ℕ) → j < n → total φ (f j) ≤ b) → total φ (forEach n f) ≤ n * b
+    (φ : Payment → ℕ) (b n : ℕ) (f : ℕ → List Payment) → ((j : ℕ) → j < n → sumOf φ (f j) ≤ b) → sumOf φ (forEach n f) ≤ n * b
 forEach-le φ b zero f h = rw (Sum.forEach-zero φ f) (omega arith)
 forEach-le φ b (suc n) f h =
     let rest = forEach-le φ b n f (λ j l. h j (omega arith)) in
@@ -60,7 +57,7 @@ module _ (a : Kept) (h : KeptFits a) where
   positive : 0 < a .discount
   positive = omega arith
 
-  overhaul-le : (j : ℕ) → j < a .terms .overhauls .count → rounded (a .discount) (overhaul a j) ≤ most
+  overhaul-le : (j : ℕ) → j < a .terms .overhauls .count → rounded (a .discount) (overhaul a j) ≤ largestPayment
   unfolding overhaul
   overhaul-le j l =
       let o = a .terms .overhauls in
@@ -71,12 +68,12 @@ module _ (a : Kept) (h : KeptFits a) where
   -- what the first k overhauls cost in year n
   pub overhauls-le :
       (n k : ℕ) → k ≤ a .terms .overhauls .count
-      → worth a (forEach k (atAge a n)) ≤ k * most
+      → worth a (forEach k (atAge a n)) ≤ k * largestPayment
   overhauls-le n k l =
-      forEach-le (rounded (a .discount)) most k _
+      forEach-le (rounded (a .discount)) largestPayment k _
       (λ j m. le-trans (when-le (rounded (a .discount)) (eqb (ageOf a j) n) (overhaul a j)) (overhaul-le j (omega arith)))
 
-  added-le : (n : ℕ) → n < 300 → worth a (added a n) ≤ 10 * most
+  added-le : (n : ℕ) → n < 300 → worth a (added a n) ≤ 10 * largestPayment
   unfolding overhaulsAt maintenance electricity
   added-le n l =
       let t = h .terms in
@@ -85,10 +82,10 @@ module _ (a : Kept) (h : KeptFits a) where
       let e = inYear-le (a .discount) (a .terms .electricity) (a .from) (suc n) positive (t .electricity) in
       rw (Sum.added-total (rounded (a .discount)) a n) (omega arith)
 
-  pub walked-le : (n : ℕ) → n ≤ 300 → worth a (walked a n) ≤ (10 * n + 1) * most
+  pub walked-le : (n : ℕ) → n ≤ 300 → worth a (walked a n) ≤ (10 * n + 1) * largestPayment
   walked-le zero l = rw (Sum.walked-zero (rounded (a .discount)) a) investment-le
     where
-      investment-le : rounded (a .discount) (investment a) ≤ (10 * 0 + 1) * most
+      investment-le : rounded (a .discount) (investment a) ≤ (10 * 0 + 1) * largestPayment
       investment-le =
           let v = a .terms .investment in
           let small = once-le (a .discount) (v .amount) (v .grow) (a .from) positive (h .terms .investment .grow .high) in

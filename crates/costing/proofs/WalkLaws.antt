@@ -8,17 +8,17 @@ use native.Mathlib.Nat.{not-suc-le-zero}
 use lib.Dec.{eqb}
 use lib.ListN.{getD}
 use borrow.Author.Tests.{eq-eqb, ne-eqb}
+use Rattle.base.specs.Lists.{sumOf}
 use Rattle.sheet.specs.declared.Flow.{Flow}
-use Rattle.costing.specs.Lists.{total}
-use Rattle.costing.specs.Step.{inService, repeated}
-use Rattle.costing.specs.Payment.{rounded}
-use Rattle.costing.specs.Arc.{once, inYear, investment, maintenance, electricity, ageOf, overhaul, forEach, when, paid, worth}
+use Rattle.steps.specs.Step.{inService, repeated}
+use Rattle.steps.specs.Payment.{rounded, once}
+use Rattle.costing.specs.Arc.{inYear, investment, maintenance, electricity, ageOf, overhaul, forEach, paidIf, paid, worth}
 use Rattle.costing.specs.Fit.{KeptFits}
 use Rattle.costing.specs.Walk.{atAge, overhaulsAt, walked, walkAt}
 use Rattle.costing.specs.declared.Kept.{Kept}
 use Rattle.costing.specs.declared.Walk.{Walk}
-use Rattle.costing.proofs.SumLaws as Sum
 use Rattle.costing.proofs.SizeLaws.{overhauls-le, walked-le}
+use Rattle.costing.proofs.SumLaws as Sum
 
 -- a flow's running amount at the start, and one year in service on
 inYear-zero : (discount : ℕ) (w : Flow) (t : ℕ) → rounded discount (once (w .amount) (w .grow) t) ≡ rounded discount (inYear w t 0)
@@ -36,7 +36,7 @@ abbrev pub walk : (cost maintenance electricity years : ℕ) → Walk
 walk c m e n = record { cost = record { 0 = c }; maintenance = record { 0 = m }; electricity = record { 0 = e }; years = n }
 
 -- the fields of a walk that stands where it should
-pub walkAt-cost : (a : Kept) (n : ℕ) → walkAt a n .cost .0 ≡ worth a (walked a n)
+walkAt-cost : (a : Kept) (n : ℕ) → walkAt a n .cost .0 ≡ worth a (walked a n)
 unfolding walkAt
 walkAt-cost a n = refl
 
@@ -48,7 +48,7 @@ pub walkAt-electricity : (a : Kept) (n : ℕ) → walkAt a n .electricity .0 ≡
 unfolding walkAt electricity
 walkAt-electricity a n = refl
 
-pub walkAt-years : (a : Kept) (n : ℕ) → walkAt a n .years ≡ n
+walkAt-years : (a : Kept) (n : ℕ) → walkAt a n .years ≡ n
 unfolding walkAt
 walkAt-years a n = refl
 
@@ -122,12 +122,12 @@ walk-stands a w n stands = stands ∙ ap (walkAt a) (sym (walk-years a w n stand
 module _ (discount amount grow from age n : ℕ) where
   pub overhaul-falls :
       age ≡ n
-      → rounded discount (once amount grow (from + n)) ≡ total (rounded discount) (when (eqb age n) (once amount grow (from + age)))
+      → rounded discount (once amount grow (from + n)) ≡ sumOf (rounded discount) (paidIf (eqb age n) (once amount grow (from + age)))
   overhaul-falls e =
-      rw (eq-eqb age n e, Sum.when-true (rounded discount)) (ap (λ (x : ℕ). rounded discount (once amount grow (from + x))) (sym e))
+      rw (eq-eqb age n e, Sum.paidIf-true (rounded discount)) (ap (λ (x : ℕ). rounded discount (once amount grow (from + x))) (sym e))
 
-  pub overhaul-waits : (age ≡ n → ⊥) → 0 ≡ total (rounded discount) (when (eqb age n) (once amount grow (from + age)))
-  overhaul-waits d = rw (ne-eqb age n d) (sym (Sum.when-false (rounded discount) (once amount grow (from + age))))
+  pub overhaul-waits : (age ≡ n → ⊥) → 0 ≡ sumOf (rounded discount) (paidIf (eqb age n) (once amount grow (from + age)))
+  overhaul-waits d = rw (ne-eqb age n d) (sym (Sum.paidIf-false (rounded discount) (once amount grow (from + age))))
 
 -- what the first k overhauls cost in year n of the arc
 unfoldable pub dueBy : Kept → (n k : ℕ) → ℕ
@@ -141,7 +141,7 @@ pub dueBy-suc :
     (a : Kept) (n k : ℕ) {by : ℕ} → by ≡ a .discount
     → let o = a .terms .overhauls in
     let age = getD (o .ages) k 0 in
-    dueBy a n k + total (rounded by) (when (eqb age n) (once (getD (o .amounts) k 0) (o .grow) (a .from + age))) ≡ dueBy a n (k + 1)
+    dueBy a n k + sumOf (rounded by) (paidIf (eqb age n) (once (getD (o .amounts) k 0) (o .grow) (a .from + age))) ≡ dueBy a n (k + 1)
 unfolding dueBy overhaul ageOf
 dueBy-suc a n k number = rw (number, add-one k) (sym (Sum.forEach-suc (rounded (a .discount)) k _))
 

@@ -4,13 +4,15 @@ use mathlib.Core.List.{List, [], _∷_, _++_}
 use mathlib.Core.Bool.{Bool, cond}
 use lib.Dec.{ltb}
 use lib.ListN.{getD}
+use Rattle.base.specs.Lists.{sumOf}
 use Rattle.sheet.specs.Sheet.{PlanningSheet}
-use Rattle.sheet.specs.Parsed.{termsOf}
+use Rattle.sheet.specs.Parsed.{termsOf, noTerms}
 use Rattle.sheet.specs.declared.Flow.{Flow}
-use Rattle.costing.specs.Lists.{total}
+use Rattle.sheet.specs.declared.Sheet.{Sheet}
+use Rattle.sheet.specs.declared.Terms.{Terms}
+use Rattle.steps.specs.Payment.{Payment, rounded, once}
+use Rattle.steps.specs.Exact.{exact}
 use Rattle.costing.specs.declared.Kept.{Kept}
-use Rattle.costing.specs.Payment.{Payment, rounded}
-use Rattle.costing.specs.Exact.{exact}
 
 -- An arc is an option kept from year t to year t + n. `kept` has the option's terms, the discount factor and t (all that is known of an
 -- arc before its end), `years` is n, and `horizon` is T.
@@ -19,18 +21,25 @@ pub record Arc : Type 0 where
   pub years : ℕ
   pub horizon : ℕ
 
+-- an option on its terms, kept from a year on: every `Kept` is made by this
+abbrev pub keptOn : Terms → (discount start : ℕ) → Kept
+keptOn terms discount start = record { terms = terms; discount = discount; from = start }
+
+-- an option of a sheet as the code holds it, and the same option kept from another year
+abbrev pub keptOf : Sheet → (option start : ℕ) → Kept
+keptOf s option start = keptOn (getD (s .options) option noTerms) (s .discount) start
+
+abbrev pub keptFrom : Kept → (start : ℕ) → Kept
+keptFrom a start = keptOn (a .terms) (a .discount) start
+
 -- the arc of a sheet's option from a start to an end
 unfoldable pub arcOf : PlanningSheet → (option start end : ℕ) → Arc
 arcOf p option start end =
     record {
-      kept = record { terms = termsOf (p .option option); discount = 1_000_000 + p .rate; from = start };
+      kept = keptOn (termsOf (p .option option)) (1_000_000 + p .rate) start;
       years = end - start;
       horizon = p .horizon;
     }
-
--- an amount paid once, in a year
-unfoldable pub once : (amount grow year : ℕ) → Payment
-once amount grow year = record { amount = amount; grow = grow; age = 1_000_000; plainly = year; served = 0 }
 
 -- what a flow, an amount paid each year with the factors of its rates, pays in its k-th year of service, which began in year t
 unfoldable pub inYear : Flow → (t k : ℕ) → Payment
@@ -60,12 +69,12 @@ forEach zero f = []
 forEach (suc n) f = forEach n f ++ f n
 
 -- a payment where something holds, else none
-unfoldable pub when : Bool → Payment → List Payment
-when holds p = cond holds (p ∷ []) []
+unfoldable pub paidIf : Bool → Payment → List Payment
+paidIf holds p = cond holds (p ∷ []) []
 
 -- each overhaul of age less than n
 unfoldable pub overhaulsBelow : Kept → ℕ → List Payment
-overhaulsBelow a n = forEach (a .terms .overhauls .count) (λ j. when (ltb (ageOf a j) n) (overhaul a j))
+overhaulsBelow a n = forEach (a .terms .overhauls .count) (λ j. paidIf (ltb (ageOf a j) n) (overhaul a j))
 
 -- Length n = 0 costs 0, investment included. For n of 1 or more: the investment; each overhaul of age less than n; for each k from 1 to n
 -- maintenance, and electricity in the same way.
@@ -82,11 +91,15 @@ payments a = paid (a .kept) (a .years)
 
 -- what payments of an option cost in units
 abbrev pub worth : Kept → List Payment → ℕ
-worth a ps = total (rounded (a .discount)) ps
+worth a ps = sumOf (rounded (a .discount)) ps
 
 -- an arc's cost in units, and its exact value over the common denominator: sums over the same payments
 unfoldable pub cost : Arc → ℕ
 cost a = worth (a .kept) (payments a)
 
 unfoldable pub exactCost : Arc → ℕ
-exactCost a = total (exact (a .horizon) (a .kept .discount)) (payments a)
+exactCost a = sumOf (exact (a .horizon) (a .kept .discount)) (payments a)
+
+-- what an arc of an option from y to e costs
+abbrev pub costTo : PlanningSheet → (option y e : ℕ) → ℕ
+costTo p option y e = cost (arcOf p option y e)

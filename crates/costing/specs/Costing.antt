@@ -2,10 +2,10 @@
 use Prim.Native.Nat.{ℕ}
 use mathlib.Core.List.{List}
 use mathlib.Core.Bool.{cond}
+use Rattle.base.specs.Answer.{accepted, refused, _orElse_}
+use Rattle.base.specs.declared.Answer.{Answer}
 use Rattle.sheet.specs.Sheet.{PlanningSheet, sheetOf}
-use Rattle.checking.specs.Answer.{accepted, refused, _orElse_}
 use Rattle.checking.specs.Refusals.{checked}
-use Rattle.checking.specs.declared.Answer.{Answer}
 use Rattle.costing.specs.Arc.{arcOf, cost}
 use Rattle.costing.specs.Offered.{offered}
 

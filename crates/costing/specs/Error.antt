@@ -1,30 +1,7 @@
--- How far the rounded value of a payment and of an arc may lie from the exact one. Definitions only.
+-- How far the rounded value of an arc may lie from the exact one. Definitions only.
 use Prim.Native.Nat.{ℕ, _+_, _*_, _≤_}
-use Rattle.costing.specs.Step.{above, below}
-use Rattle.costing.specs.Payment.{Payment, rounded}
-use Rattle.costing.specs.Exact.{Fraction, unrounded, common}
+use Rattle.steps.specs.Exact.{common}
 use Rattle.costing.specs.Arc.{Arc, exactCost}
-
--- x lies above y by at most W, counted `side` halves at a time
-abbrev pub ExceedsAtMost : (side x y W : ℕ) → Type 0
-ExceedsAtMost side x y W = 2 * x ≤ 2 * y + side * W
-
--- a rounded amount lies at most W halves of a unit from a fraction, W counted over the fraction's denominator
-pub record Near (a : ℕ) (x : Fraction) (W : ℕ) : Type 0 where
-  pub high : ExceedsAtMost above (a * x .denominator) (x .numerator) W
-  pub low : ExceedsAtMost below (x .numerator) (a * x .denominator) W
-
--- the same for w halves of a unit, whatever the denominator
-abbrev pub NearBy : (a : ℕ) (x : Fraction) (w : ℕ) → Type 0
-NearBy a x w = Near a x (w * x .denominator)
-
--- the halves of a unit by which a payment's rounded and exact values may differ: one for each plain step, two for each step in service
-unfoldable pub halves : Payment → ℕ
-halves p = p .plainly + 2 * p .served
-
--- a payment's present value in units is that near to its exact value
-abbrev pub PaymentNear : (discount : ℕ) → Payment → Type 0
-PaymentNear discount p = NearBy (rounded discount p) (unrounded discount p) (halves p)
 
 -- the error allowed from year 0 to year y, in quarters of a unit: 5y² + 3y
 unfoldable pub allowance : ℕ → ℕ

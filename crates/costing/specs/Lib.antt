@@ -1,13 +1,10 @@
--- The definitions of costing, in reading order: one year's step and payments; arcs; what costing answers, and its error; what the code asks
--- and where it stands; the cases.
-pub mod Step
-pub mod Lists
-pub mod Payment
-pub mod Exact
+-- The definitions of costing, in reading order: arcs and which are offered; what costing answers, and its error; what the code asks and where
+-- it stands; the sheets of the cases, and the cases of arcs.
 pub mod Arc
 pub mod Offered
 pub mod Costing
 pub mod Error
 pub mod Fit
 pub mod Walk
+pub mod CaseSheets
 pub mod Cases

@@ -2,14 +2,14 @@
 use Prim.Native.Nat.{ℕ, suc}
 use mathlib.Core.List.{List, [], _∷_, _++_}
 use lib.Dec.{eqb}
+use Rattle.steps.specs.Payment.{Payment, rounded}
+use Rattle.costing.specs.Arc.{investment, maintenance, electricity, ageOf, overhaul, forEach, paidIf, worth}
 use Rattle.costing.specs.declared.Kept.{Kept}
 use Rattle.costing.specs.declared.Walk.{Walk}
-use Rattle.costing.specs.Payment.{Payment, rounded}
-use Rattle.costing.specs.Arc.{investment, maintenance, electricity, ageOf, overhaul, forEach, when, worth}
 
 -- the j-th overhaul if its age is n, and all overhauls of that age
 abbrev pub atAge : Kept → (n j : ℕ) → List Payment
-atAge a n j = when (eqb (ageOf a j) n) (overhaul a j)
+atAge a n j = paidIf (eqb (ageOf a j) n) (overhaul a j)
 
 unfoldable pub overhaulsAt : Kept → ℕ → List Payment
 overhaulsAt a n = forEach (a .terms .overhauls .count) (atAge a n)

@@ -3,30 +3,24 @@
 ghost use mathlib.Core.Path.{_≡_};
 ghost use Prim.Native.Nat.{_+_, _*_, _<_, _≤_};
 ghost use lib.Dec.{eqb};
-ghost use Rattle.costing.specs.Lists.{total};
-ghost use Rattle.costing.specs.Payment.{rounded};
-ghost use Rattle.costing.specs.Arc.{once, when, paid, worth};
-ghost use Rattle.division.specs.Division.{Ready};
-ghost use Rattle.costing.specs.Fit.{PlainFits, KeptFits, Divides};
+ghost use Rattle.base.specs.Lists.{sumOf};
+ghost use Rattle.division.specs.Division.{DivisorReady};
+ghost use Rattle.steps.specs.Payment.{rounded, once};
+ghost use Rattle.steps.specs.Fit.{PlainFits};
+ghost use Rattle.costing.specs.Arc.{paidIf, paid, worth};
+ghost use Rattle.costing.specs.Fit.{Steppable};
 ghost use Rattle.costing.specs.Walk.{overhaulsAt, walkAt};
 use crate::Kept;
-use crate::Units;
 use crate::Walk;
 use division::Divisor;
-
-// The present value of an amount paid once, in a year.
-fn paid_once(amount: u64, grow: u64, discount: Divisor, year: u64) -> Units
-    requires { ⌜ PlainFits grow (discount .by) (amount * 10_000) × Ready discount ⌝ }
-    ensures { λ r. ⌜ r .0 ≡ rounded (discount .by) (once amount grow year) ⌝ }
-{
-    Units(amount * 10_000).plain_years(grow, discount, year)
-}
+use steps::Units;
+use steps::paid_once;
 
 // What an overhaul costs in year n of an arc, from 0: nothing unless n is its age.
 fn overhaul_at(age: u64, amount: u64, grow: u64, discount: Divisor, from: u64, n: u64) -> Units
-    requires { ⌜ PlainFits grow (discount .by) (amount * 10_000) × Ready discount ⌝ }
+    requires { ⌜ PlainFits grow (discount .by) (amount * 10_000) × DivisorReady discount ⌝ }
     requires { ⌜ (from ≤ 300) × (n ≤ 300) ⌝ }
-    ensures { λ r. ⌜ r .0 ≡ total (rounded (discount .by)) (when (eqb age n) (once amount grow (from + age))) ⌝ }
+    ensures { λ r. ⌜ r .0 ≡ sumOf (rounded (discount .by)) (paidIf (eqb age n) (once amount grow (from + age))) ⌝ }
 {
     if age == n {
         return paid_once(amount, grow, discount, from + n);
@@ -37,7 +31,7 @@ fn overhaul_at(age: u64, amount: u64, grow: u64, discount: Divisor, from: u64, n
 impl Kept {
     // What the overhauls of age n cost.
     fn overhauls_at(self, discount: Divisor, n: u64) -> Units
-        requires { ⌜ KeptFits self × Divides discount (self .discount) × (n ≤ 300) ⌝ }
+        requires { ⌜ Steppable self discount × (n ≤ 300) ⌝ }
         ensures { λ r. ⌜ r .0 ≡ worth self (overhaulsAt self n) ⌝ }
     {
         let terms = self.terms;
@@ -54,7 +48,7 @@ impl Kept {
 
     // The arc before its first year: the investment is paid, and the running amounts stand at the start.
     pub fn open(self, discount: Divisor) -> Walk
-        requires { ⌜ KeptFits self × Divides discount (self .discount) ⌝ }
+        requires { ⌜ Steppable self discount ⌝ }
         ensures { λ r. ⌜ r ≡ walkAt self 0 ⌝ }
     {
         let terms = self.terms;
@@ -71,7 +65,7 @@ impl Kept {
 
     // The cost of an arc of that many years.
     pub fn cost(self, discount: Divisor, years: u64) -> Units
-        requires { ⌜ KeptFits self × Divides discount (self .discount) × (years ≤ 300) ⌝ }
+        requires { ⌜ Steppable self discount × (years ≤ 300) ⌝ }
         ensures { λ r. ⌜ r .0 ≡ worth self (paid self years) ⌝ }
     {
         if years == 0 {
@@ -88,7 +82,7 @@ impl Kept {
 impl Walk {
     // One year more; `due` is what the overhauls of that year cost.
     pub fn year(self, kept: Kept, discount: Divisor, due: Units) -> Walk
-        requires { ⌜ KeptFits kept × Divides discount (kept .discount) × (self .years < 300) ⌝ }
+        requires { ⌜ Steppable kept discount × (self .years < 300) ⌝ }
         requires { ⌜ self ≡ walkAt kept (self .years) ⌝ }
         requires { ⌜ due .0 ≡ worth kept (overhaulsAt kept (self .years)) ⌝ }
         ensures { λ r. ⌜ r ≡ walkAt kept (self .years + 1) ⌝ }

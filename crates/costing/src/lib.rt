@@ -1,29 +1,28 @@
-// What an arc costs: document 01, 'One year's step' and 'What an arc costs'.
-// The public call is `cost`. The structs with their methods, `arc_cost` and `offer::offered` serve the crates above.
+// What an arc costs: document 01, 'What an arc costs'.
+// The public call is `cost`. The structs with their methods, `kept_of`, `arc_cost` and `offer::offered` serve the crates above.
 
 ghost use mathlib.Core.Path.{_≡_};
 ghost use mathlib.Core.Logic.{_↔_};
 ghost use Prim.Native.Nat.{_-_, _*_, _≤_};
 ghost use Rattle.sheet.specs.Sheet.{PlanningSheet, sheetOf};
 ghost use Rattle.sheet.specs.Parsed.{parsed};
-ghost use Rattle.checking.specs.Fit.{Fit};
 ghost use Rattle.checking.specs.Passes.{Passes};
-ghost use Rattle.costing.specs.Arc.{arcOf, cost};
+ghost use Rattle.checking.specs.Fit.{Fit};
+ghost use Rattle.costing.specs.Arc.{keptOn, keptOf, keptFrom, arcOf, cost};
 ghost use Rattle.costing.specs.Offered.{Offered};
 ghost use Rattle.costing.specs.Costing.{costed};
 ghost use Rattle.costing.specs.Error.{WithinAllowance};
 ghost use Rattle.costing.specs.Fit.{yearly};
-use checking::Answer;
+use base::Answer;
+use base::order;
 use division::Divisor;
+use sheet::REPLACE;
 use sheet::Sheet;
 use sheet::Terms;
+use steps::Units;
 
 mod arc;
 pub mod offer;
-mod step;
-
-// A present value in units: a currency unit is 10,000 of them.
-pub struct Units(pub u64);
 
 // An option kept from a year on: an arc whose end is not given yet. `discount` is 1,000,000 + the real discount rate.
 pub struct Kept {
@@ -40,37 +39,47 @@ pub struct Walk {
     pub years: u64,
 }
 
+// An option on its terms, kept from a year on: every `Kept` is made by this.
+fn kept_on(terms: Terms, discount: u64, start: u64) -> Kept
+    ensures { λ r. ⌜ r ≡ keptOn terms discount start ⌝ }
+{
+    Kept {
+        terms: terms,
+        discount: discount,
+        from: start,
+    }
+}
+
+// An option of a parsed sheet, kept from a year on.
+pub fn kept_of(sheet: Sheet, option: u64, start: u64) -> Kept
+    requires { ⌜ option ≤ 2 ⌝ }
+    ensures { λ r. ⌜ r ≡ keptOf sheet option start ⌝ }
+{
+    let terms = sheet.options[option as usize];
+    kept_on(terms, sheet.discount, start)
+}
+
+impl Kept {
+    // The same option, kept from another year.
+    pub fn starting(self, start: u64) -> Kept
+        ensures { λ r. ⌜ r ≡ keptFrom self start ⌝ }
+    {
+        let terms = self.terms;
+        kept_on(terms, self.discount, start)
+    }
+}
+
 // The cost of an arc of a parsed sheet that passes the checks: for the crates above, which parse a sheet once for many arcs.
 pub fn arc_cost(sheet: Sheet, option: u64, start: u64, end: u64) -> Units
     requires { ⌜ Fit sheet × (option ≤ 2) × (start ≤ end) × (end ≤ sheet .horizon) ⌝ }
     ensures units { λ r. ⌜ ((p : PlanningSheet) → sheet ≡ parsed p → r .0 ≡ cost (arcOf p option start end)) ⌝ }
     ensures room { λ r. ⌜ r .0 ≤ (end - start) * yearly ⌝ }
 {
-    let terms = sheet.options[option as usize];
-    let kept = Kept {
-        terms: terms,
-        discount: sheet.discount,
-        from: start,
-    };
+    let kept = kept_of(sheet, option, start);
     kept.cost(Divisor::of(sheet.discount), end - start)
 }
 
-// The same of a sheet in bytes that offers the arc: for `cost`, which has one arc and reads only its option's record.
-fn arc_on(sheet: &[u8], option: u64, start: u64, end: u64) -> Units
-    requires { ⌜ Passes (now sheet) × Offered (sheetOf (now sheet)) option start end ⌝ }
-    ensures { λ r. ⌜ r .0 ≡ cost (arcOf (sheetOf (now (sheet .entry))) option start end) ⌝ }
-{
-    let terms = sheet::terms_of(sheet, option as usize);
-    let discount = sheet::discount_of(sheet);
-    let kept = Kept {
-        terms: terms,
-        discount: discount,
-        from: start,
-    };
-    kept.cost(Divisor::of(discount), end - start)
-}
-
-// The cost of an arc: of an option kept from year start to year end.
+// The cost of an arc: of an option kept from year start to year end. Its option's record is read once.
 pub fn cost(sheet: &[u8], option: u64, start: u64, end: u64) -> Answer
     ensures answer { λ r. ⌜ r ≡ costed (now (sheet .entry)) option start end ⌝ }
     ensures accepted { λ r. ⌜ (r .number ≡ 0) ↔ (Passes (now (sheet .entry)) × Offered (sheetOf (now (sheet .entry))) option start end) ⌝ }
@@ -80,9 +89,14 @@ pub fn cost(sheet: &[u8], option: u64, start: u64, end: u64) -> Answer
     if checked.number != 0 {
         return checked;
     }
-    if !offer::offered_on(sheet, option, start, end) {
-        return checking::refused(13, 3);
+    let known = order::smaller(option, REPLACE);
+    let terms = sheet::terms_of(sheet, known as usize);
+    let horizon = sheet::horizon_of(sheet);
+    if !offer::offered_by(horizon, terms.shortest, terms.longest, option, start, end) {
+        return base::refused(13, 3);
     }
-    let units = arc_on(sheet, option, start, end);
-    checking::accepted(units.0)
+    let discount = sheet::discount_of(sheet);
+    let kept = kept_on(terms, discount, start);
+    let units = kept.cost(Divisor::of(discount), end - start);
+    base::accepted(units.0)
 }

@@ -6,8 +6,8 @@ use mathlib.Core.Path.{_≡_, refl, ap, _∙_}
 use mathlib.Core.Logic.{⊎-elim}
 use native.Mathlib.Omega.{arith}
 use native.Mathlib.Nat.{add-zero, mul-le-mul, mul-le-mul-left, mul-le-mul-right, mul-lt-mul-of-pos-left, le-of-mul-le-mul-right, lt-of-mul-lt-mul-right, div-mul-le-self, lt-div-mul-add, div-lt-iff-lt-mul, div-eq-of-lt-le, div-div-eq-div-mul}
+use Rattle.division.specs.Division.{Above, Below, DivisorReady}
 use Rattle.division.specs.declared.Divisor.{Divisor}
-use Rattle.division.specs.Division.{Above, Below, Ready}
 
 -- the figures of `Divisor::of`: 2^51 − 1 over the divisor and its rest; that rest with 32 bits more, over the divisor, and what is left;
 -- both quotients as one number
@@ -89,12 +89,12 @@ module _ (P d n i : ℕ) (positive : 0 < d) where
       let l : (n + 1) * (2 * P) ≤ (n + 1) * (2 * (i * d) + d) = mul-le-mul-left (n + 1) low in
       quotient-between P d n ((n + 1) * i) positive (omega arith) (omega arith)
 
-pub more-le : (d : Divisor) → Ready d → d .more ≤ 1
+pub more-le : (d : Divisor) → DivisorReady d → d .more ≤ 1
 more-le d ready = ⊎-elim (λ (a : Above d). omega (arith, a .exact)) (λ (b : Below d). omega (arith, b .more)) (ready .near)
 
 -- u is the upper half of the product with the reciprocal
 pub reciprocal-quotient :
-    (d : Divisor) → Ready d → (n u : ℕ) → n ≤ 16_000_000_000_000_000_000 → u ≡ (n + d .more) * d .inverse / 2 ^ 64
+    (d : Divisor) → DivisorReady d → (n u : ℕ) → n ≤ 16_000_000_000_000_000_000 → u ≡ (n + d .more) * d .inverse / 2 ^ 64
     → u / 2 ^ 19 ≡ n / d .by
 reciprocal-quotient d ready n u near half =
     let most : n + 1 ≤ 16_000_000_000_000_000_001 = omega arith in

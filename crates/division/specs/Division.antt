@@ -17,7 +17,7 @@ pub record Below (d : Divisor) : Type 0 where
   pub low : 2 * 2 ^ 83 ≤ 2 * (d .inverse * d .by) + d .by
 
 -- a divisor that is ready to divide: it is not 0, at most 1,200,000, and its reciprocal is near
-pub record Ready (d : Divisor) : Type 0 where
+pub record DivisorReady (d : Divisor) : Type 0 where
   pub positive : 0 < d .by
   pub small : d .by ≤ 1_200_000
   pub near : Above d ⊎ Below d

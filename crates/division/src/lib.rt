@@ -3,7 +3,7 @@
 
 ghost use mathlib.Core.Path.{_≡_};
 ghost use Prim.Native.Nat.{_*_, _/_, _^_, _≤_};
-ghost use Rattle.division.specs.Division.{Ready};
+ghost use Rattle.division.specs.Division.{DivisorReady};
 
 // Powers of two: 32 + 51 and 64 + 19 are both 83.
 const TWO_19: u64 = 524_288;
@@ -37,7 +37,7 @@ impl Divisor {
     pub fn of(by: u64) -> Divisor
         requires { ⌜ (1_000_000 ≤ by) × (by ≤ 1_200_000) ⌝ }
         ensures number { λ r. ⌜ r .by ≡ by ⌝ }
-        ensures ready { λ r. ⌜ Ready r ⌝ }
+        ensures ready { λ r. ⌜ DivisorReady r ⌝ }
     {
         let high = (TWO_51 - 1) / by;
         let rest = TWO_51 - 1 - high * by;
@@ -61,7 +61,7 @@ impl Divisor {
 
     // n over the divisor.
     pub fn quotient(self, n: u64) -> u64
-        requires { ⌜ Ready self × (n ≤ 16_000_000_000_000_000_000) ⌝ }
+        requires { ⌜ DivisorReady self × (n ≤ 16_000_000_000_000_000_000) ⌝ }
         ensures { λ r. ⌜ r ≡ n / self .by ⌝ }
     {
         upper(n + self.more, self.inverse) / TWO_19

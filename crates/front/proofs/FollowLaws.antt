@@ -9,17 +9,17 @@ use lib.ListN.{length, set, take}
 use lib.Seq.{length-take-le, append-snoc, take-suc-set}
 use Rattle.sheet.specs.Sheet.{PlanningSheet}
 use Rattle.choice.specs.Running.{Entry, noTotal}
-use Rattle.tails.specs.Tail.{tail}
+use Rattle.tails.specs.Tail.{tailFrom}
 use Rattle.tails.proofs.TailLaws.{tail-last}
 use Rattle.front.specs.Front.{Follows}
 use Rattle.front.proofs.TakenLaws.{Next}
 
 pub record Reached (p : PlanningSheet) (j y count : ℕ) (ends : List ℕ) : Type 0 where
-  pub there : tail p y .total ≡ noTotal → ⊥
-  pub goes : take count ends ++ tail p y .ends ≡ tail p j .ends
+  pub there : tailFrom p y .total ≡ noTotal → ⊥
+  pub goes : take count ends ++ tailFrom p y .ends ≡ tailFrom p j .ends
 
 module _ (p : PlanningSheet) (j : ℕ) where
-  pub reached-first : (ends : List ℕ) → (tail p j .total ≡ noTotal → ⊥) → Reached p j j 0 ends
+  pub reached-first : (ends : List ℕ) → (tailFrom p j .total ≡ noTotal → ⊥) → Reached p j j 0 ends
   reached-first ends there = record { there = there; goes = refl }
 
   pub reached-next :
@@ -29,11 +29,11 @@ module _ (p : PlanningSheet) (j : ℕ) where
       record {
         there = next .there;
         goes =
-            rw (add-one count, take-suc-set ends count e room, append-snoc (take count ends) e (tail p e .ends), ← next .rest) (h .goes);
+            rw (add-one count, take-suc-set ends count e room, append-snoc (take count ends) e (tailFrom p e .ends), ← next .rest) (h .goes);
       }
 
   pub reached-last : (y count : ℕ) (ends : List ℕ) → Reached p j y count ends → y ≡ p .horizon → count ≤ length ends → Follows p j count ends
   reached-last y count ends h arrived room =
-      let last : tail p y .ends ≡ [] = ap (λ (y : ℕ). tail p y .ends) arrived ∙ ap (λ (t : Entry). t .ends) (tail-last p) in
+      let last : tailFrom p y .ends ≡ [] = ap (λ (y : ℕ). tailFrom p y .ends) arrived ∙ ap (λ (t : Entry). t .ends) (tail-last p) in
       let all = sym (append-nil (take count ends)) ∙ ap (λ (l : List ℕ). take count ends ++ l) (sym last) ∙ h .goes in
       (sym (length-take-le count ends room) ∙ ap length all, all)

@@ -1,5 +1,5 @@
 -- The laws of front, in reading order; a file cites only files above it.
---     PlannedLaws: the planned chain is the one that document 01 asks, and there is no other
+--     PlannedLaws: the planned chain is the one that document 01 asks
 --     TakenLaws: what a choice that has a total has taken
 --     KeptLaws: the choice of an end of maintaining or renovating, on the terms of the option
 --     RenovationLaws: the totals and ends of renovating, as they are written

@@ -7,17 +7,17 @@ use mathlib.Core.Bool.{true}
 use mathlib.Core.List.{List, [], _∷_}
 use mathlib.Core.Logic.{⊎-elim}
 use lib.ListN.{getD}
-use Rattle.sheet.specs.Sheet.{PlanningSheet}
+use Rattle.base.specs.Lists.{firstOf}
+use Rattle.sheet.specs.Sheet.{PlanningSheet, maintain, renovate, replace}
+use Rattle.costing.specs.Arc.{costTo}
 use Rattle.costing.specs.Offered.{offered}
 use Rattle.costing.proofs.OfferedLaws.{offered-iff}
-use Rattle.chain.specs.Chain.{maintain, renovate, replace}
-use Rattle.chain.proofs.FeasibleLaws.{replace-forward}
 use Rattle.choice.specs.Running.{Entry, noTotal, noEntry}
 use Rattle.choice.proofs.RunningLaws.{over-taken}
-use Rattle.tails.specs.Tail.{costTo, bestEnd, tail}
-use Rattle.tails.specs.Words.{firstOf}
-use Rattle.tails.specs.Best.{shown}
-use Rattle.tails.specs.declared.Best.{Best}
+use Rattle.chain.proofs.FeasibleLaws.{replace-forward}
+use Rattle.weighing.specs.Best.{inShort}
+use Rattle.weighing.specs.declared.Best.{Best}
+use Rattle.tails.specs.Tail.{bestEnd, tailFrom}
 use Rattle.tails.proofs.TailLaws.{tail-step}
 use Rattle.front.specs.Planned.{renovated, planned}
 use Rattle.front.specs.Front.{front}
@@ -48,13 +48,13 @@ module _ (p : PlanningSheet) where
   pub record Next (y e : ℕ) : Type 0 where
     pub later : y < e
     pub inside : e ≤ p .horizon
-    pub there : tail p e .total ≡ noTotal → ⊥
-    pub rest : tail p y .ends ≡ e ∷ tail p e .ends
+    pub there : tailFrom p e .total ≡ noTotal → ⊥
+    pub rest : tailFrom p y .ends ≡ e ∷ tailFrom p e .ends
 
-  pub tail-next : (y e : ℕ) → y < p .horizon → (tail p y .total ≡ noTotal → ⊥) → e ≡ firstOf (tail p y .ends) → Next y e
+  pub tail-next : (y e : ℕ) → y < p .horizon → (tailFrom p y .total ≡ noTotal → ⊥) → e ≡ firstOf (tailFrom p y .ends) → Next y e
   tail-next y e early there first =
       let step = tail-step p y early in
-      let t = best-taken replace y (tail p) (subst (λ (t : Entry). t .total ≡ noTotal → ⊥) step there) in
+      let t = best-taken replace y (tailFrom p) (subst (λ (t : Entry). t .total ≡ noTotal → ⊥) step there) in
       let goes = ap (λ (t : Entry). t .ends) step ∙ t .goes in
       let same : t .end ≡ e = sym (first ∙ ap firstOf goes) in
       let o = offered-iff p replace y (t .end) .0 (t .on) in
@@ -65,13 +65,13 @@ module _ (p : PlanningSheet) where
   unfolding planned
   planned-taken = best-taken maintain 0 (renovated p)
 
-  renovated-taken : (i : ℕ) → (renovated p i .total ≡ noTotal → ⊥) → Taken p renovate i (tail p) (renovated p i .ends)
+  renovated-taken : (i : ℕ) → (renovated p i .total ≡ noTotal → ⊥) → Taken p renovate i (tailFrom p) (renovated p i .ends)
   unfolding renovated
-  renovated-taken i = best-taken renovate i (tail p)
+  renovated-taken i = best-taken renovate i (tailFrom p)
 
   -- i is the end of maintaining, j that of renovating from i
   pub planned-front :
-      (best : Best) → best ≡ shown (planned p) → (best .total ≡ noTotal → ⊥)
+      (best : Best) → best ≡ inShort (planned p) → (best .total ≡ noTotal → ⊥)
       → (offered p maintain 0 (best .end) ≡ true)
       × ((j : ℕ) → j ≡ firstOf (renovated p (best .end) .ends) → record { total = best .total; i = best .end; j = j } ≡ front (planned p))
   planned-front best read there =
@@ -89,8 +89,8 @@ module _ (p : PlanningSheet) where
   -- the planned chain begins with i and j and goes on with the replacements from j
   pub record Begins (i j : ℕ) : Type 0 where
     pub inside : j ≤ p .horizon
-    pub there : tail p j .total ≡ noTotal → ⊥
-    pub goes : planned p .ends ≡ i ∷ j ∷ tail p j .ends
+    pub there : tailFrom p j .total ≡ noTotal → ⊥
+    pub goes : planned p .ends ≡ i ∷ j ∷ tailFrom p j .ends
 
   pub planned-begins : (f : Front) → f ≡ front (planned p) → (f .total ≡ noTotal → ⊥) → Begins (f .i) (f .j)
   planned-begins f read there =

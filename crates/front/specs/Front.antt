@@ -1,20 +1,22 @@
 -- What the code keeps on the way to a chain. Definitions only.
-use Prim.Native.Nat.{ℕ, _≤_}
+use Prim.Native.Nat.{ℕ, _≤_, _<_}
 use mathlib.Core.Path.{_≡_}
 use mathlib.Core.Bool.{true}
 use mathlib.Core.List.{List}
 use lib.ListN.{length, getD, take}
-use Rattle.sheet.specs.Sheet.{PlanningSheet}
+use mathlib.Core.Logic.{_⊎_}
+use Rattle.base.specs.Lists.{firstOf}
+use Rattle.sheet.specs.Layout.{yearPlaces}
+use Rattle.sheet.specs.Sheet.{PlanningSheet, maintain}
 use Rattle.sheet.specs.Parsed.{parsed}
 use Rattle.sheet.specs.declared.Sheet.{Sheet}
 use Rattle.costing.specs.Offered.{offered}
 use Rattle.costing.specs.declared.Kept.{Kept}
-use Rattle.chain.specs.Chain.{maintain}
-use Rattle.choice.specs.Running.{Entry, noTotal, noEntry}
-use Rattle.tails.specs.Tail.{tail}
-use Rattle.tails.specs.Words.{firstOf}
-use Rattle.tails.specs.Best.{shown, weighed, bestTo, wordOf, WordsFit}
-use Rattle.tails.specs.declared.Best.{Best}
+use Rattle.choice.specs.Running.{Entry, noTotal, noEntry, weigh}
+use Rattle.weighing.specs.Best.{inShort, numbers}
+use Rattle.weighing.specs.Ends.{bestTo, wordOf}
+use Rattle.weighing.specs.declared.Best.{Best}
+use Rattle.tails.specs.Tail.{tailFrom}
 use Rattle.front.specs.Planned.{renovated}
 use Rattle.front.specs.declared.Front.{Front}
 
@@ -22,39 +24,48 @@ use Rattle.front.specs.declared.Front.{Front}
 abbrev pub front : Entry → Front
 front t = record { total = t .total; i = getD (t .ends) 0 0; j = getD (t .ends) 1 0 }
 
--- the lent words, once they are written: the least totals of replacements from each year
-pub record TailsLent (s : Sheet) (words : List ℕ) : Type 0 where
-  pub room : 301 ≤ length words
-  pub totals : (p : PlanningSheet) → s ≡ parsed p → (y : ℕ) → y ≤ p .horizon → wordOf words y ≡ tail p y .total
+-- a list that has a figure of the sheet at each year of a domain, and a place for every year up to 300
+pub record Held (figure : PlanningSheet → ℕ → ℕ) (Domain : PlanningSheet → ℕ → Type 0) (s : Sheet) (l : List ℕ) : Type 0 where
+  pub room : yearPlaces ≤ length l
+  pub held : (p : PlanningSheet) → s ≡ parsed p → (y : ℕ) → Domain p y → getD l y 0 ≡ figure p y
 
--- the ends of the first replacements from each year, once they are written
-pub record FirstsLent (s : Sheet) (firsts : List ℕ) : Type 0 where
-  pub room : 301 ≤ length firsts
-  pub held : (p : PlanningSheet) → s ≡ parsed p → (y : ℕ) → y ≤ p .horizon → getD firsts y 0 ≡ firstOf (tail p y .ends)
+-- the lent words, once they are written: the least totals of replacements from each year, and the ends of the first of them
+abbrev pub TailsLent : Sheet → (words : List ℕ) → Type 0
+TailsLent = Held (λ p y. tailFrom p y .total) (λ p y. y ≤ p .horizon)
+
+abbrev pub FirstsLent : Sheet → (firsts : List ℕ) → Type 0
+FirstsLent = Held (λ p y. firstOf (tailFrom p y .ends)) (λ p y. y ≤ p .horizon)
 
 -- replacements lead from year j to the horizon
 abbrev pub Leads : Sheet → (j : ℕ) → Type 0
-Leads s j = (p : PlanningSheet) → s ≡ parsed p → tail p j .total ≡ noTotal → ⊥
+Leads s j = (p : PlanningSheet) → s ≡ parsed p → tailFrom p j .total ≡ noTotal → ⊥
 
 -- the choice of the end of an option that may also have length 0, which costs nothing
 abbrev pub bestKept : Kept → (T : ℕ) → (words : ℕ → ℕ) → Best
-bestKept a T words = bestTo a T words (weighed (shown noEntry) 0 (a .from) (words (a .from)))
+bestKept a T words = bestTo a T words (weigh numbers (inShort noEntry) 0 (a .from) (words (a .from)))
 
 -- no year has a total yet
 abbrev pub NoTotals : List ℕ → Type 0
 NoTotals totals = (y : ℕ) → y ≤ 300 → wordOf totals y ≡ noTotal
 
--- the least totals of renovating and then replacing, from each year in which maintaining may end
-pub record TotalsHeld (s : Sheet) (totals : List ℕ) : Type 0 where
-  pub room : 301 ≤ length totals
-  pub held : (p : PlanningSheet) → s ≡ parsed p → (i : ℕ) → offered p maintain 0 i ≡ true → wordOf totals i ≡ renovated p i .total
-  pub fits : WordsFit (s .horizon) 0 totals
+-- the least totals of renovating and then replacing, from each year in which maintaining may end, and the ends of renovating from there
+abbrev pub TotalsHeld : Sheet → (totals : List ℕ) → Type 0
+TotalsHeld = Held (λ p i. renovated p i .total) (λ p i. offered p maintain 0 i ≡ true)
 
--- the ends of renovating from these years
-pub record EndsHeld (s : Sheet) (ends : List ℕ) : Type 0 where
-  pub room : 301 ≤ length ends
-  pub held : (p : PlanningSheet) → s ≡ parsed p → (i : ℕ) → offered p maintain 0 i ≡ true → getD ends i 0 ≡ firstOf (renovated p i .ends)
+abbrev pub EndsHeld : Sheet → (ends : List ℕ) → Type 0
+EndsHeld = Held (λ p i. firstOf (renovated p i .ends)) (λ p i. offered p maintain 0 i ≡ true)
 
 -- the first of the ends are those of the replacements from year j, that many
 abbrev pub Follows : PlanningSheet → (j count : ℕ) (ends : List ℕ) → Type 0
-Follows p j count ends = (count ≡ length (tail p j .ends)) × (take count ends ≡ tail p j .ends)
+Follows p j count ends = (count ≡ length (tailFrom p j .ends)) × (take count ends ≡ tailFrom p j .ends)
+
+-- year e is 0, or a year in which maintaining of at least the shortest life may end
+abbrev pub EndsFrom : (shortest e : ℕ) → Type 0
+EndsFrom shortest e = (e ≡ 0) ⊎ (shortest ≤ e)
+
+-- the total and the end of renovating from a year are written
+abbrev pub RenovatedAt : PlanningSheet → (totals ends : List ℕ) (e : ℕ) → Type 0
+RenovatedAt p totals ends e = (wordOf totals e ≡ renovated p e .total) × (getD ends e 0 ≡ firstOf (renovated p e .ends))
+
+abbrev pub Written : PlanningSheet → (shortest i : ℕ) (totals ends : List ℕ) → Type 0
+Written p shortest i totals ends = (e : ℕ) → e < i → EndsFrom shortest e → RenovatedAt p totals ends e

@@ -5,23 +5,18 @@ ghost use mathlib.Core.Path.{_≡_};
 ghost use Prim.Native.Nat.{_≤_};
 ghost use lib.ListN.{length};
 ghost use Rattle.sheet.specs.Sheet.{PlanningSheet};
-ghost use Rattle.sheet.specs.Parsed.{parsed, IsParsed};
-ghost use Rattle.checking.specs.Fit.{Fit};
-ghost use Rattle.costing.specs.Fit.{Divides};
+ghost use Rattle.sheet.specs.Parsed.{parsed};
+ghost use Rattle.checking.specs.Fit.{SheetFits};
+ghost use Rattle.steps.specs.Fit.{Divides};
 ghost use Rattle.front.specs.Planned.{planned};
 ghost use Rattle.front.specs.Front.{front, TailsLent, FirstsLent, Leads, Follows};
 use division::Divisor;
 use sheet::Sheet;
-use tails::weighing;
+use sheet::YEARS;
 
 mod keeping;
 mod maintaining;
 mod renovating;
-
-// The options by their numbers.
-const MAINTAIN: usize = 0;
-
-const RENOVATE: usize = 1;
 
 // How the chosen chain begins: its total, the end of maintaining and the end of renovating.
 pub struct Front {
@@ -32,12 +27,12 @@ pub struct Front {
 
 // The total of the chosen chain, and how it begins; no total where there is no chain.
 pub fn best_front(words: &[u64], sheet: Sheet, discount: Divisor) -> Front
-    requires { ⌜ Fit sheet × IsParsed sheet × Divides discount (sheet .discount) ⌝ }
+    requires { ⌜ SheetFits sheet × Divides discount (sheet .discount) ⌝ }
     requires { ⌜ TailsLent sheet (now words) ⌝ }
     ensures { λ r. ⌜ ((p : PlanningSheet) → sheet ≡ parsed p → r ≡ front (planned p)) ⌝ }
 {
-    let mut totals = [weighing::NONE; 301];
-    let mut ends = [0u64; 301];
+    let mut totals = [weighing::NONE; YEARS];
+    let mut ends = [0u64; YEARS];
     renovating::renovations(&mut totals, &mut ends, words, sheet, discount);
     let best = maintaining::best_maintain(&totals, sheet, discount);
     let total = best.total;
@@ -60,7 +55,7 @@ pub fn best_front(words: &[u64], sheet: Sheet, discount: Divisor) -> Front
 // Writes the ends of the chosen replacements from year j on, one after the other, and answers how many there are. `firsts` has the end of
 // the first replacement from each year.
 pub fn ends_from(ends: &mut [u64], firsts: &[u64], sheet: Sheet, j: u64) -> usize
-    requires { ⌜ Fit sheet × IsParsed sheet × FirstsLent sheet (now firsts) ⌝ }
+    requires { ⌜ SheetFits sheet × FirstsLent sheet (now firsts) ⌝ }
     requires { ⌜ (j ≤ sheet .horizon) × Leads sheet j × (300 ≤ length (now ends)) ⌝ }
     ensures { λ r. ⌜ ((p : PlanningSheet) → sheet ≡ parsed p → Follows p j r (now (ends .exit))) ⌝ }
 {

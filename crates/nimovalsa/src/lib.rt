@@ -4,26 +4,25 @@
 ghost use mathlib.Core.Path.{_≡_};
 ghost use mathlib.Core.Logic.{_↔_};
 ghost use Prim.Native.Nat.{ℕ, _<_};
+ghost use Rattle.base.specs.Answer.{InTable, totalBound};
 ghost use Rattle.sheet.specs.Sheet.{sheetOf};
-ghost use Rattle.checking.specs.Answer.{InTable};
 ghost use Rattle.checking.specs.Refusals.{checked};
 ghost use Rattle.checking.specs.Passes.{Passes};
 ghost use Rattle.costing.specs.Arc.{arcOf};
 ghost use Rattle.costing.specs.Offered.{Offered};
 ghost use Rattle.costing.specs.Costing.{costed};
 ghost use Rattle.costing.specs.Error.{WithinAllowance};
-ghost use Rattle.chain.specs.PlanBytes.{decode};
-ghost use Rattle.chain.specs.Pricing.{priced, PricedAt};
 ghost use Rattle.chain.specs.Error.{TotalNear};
-ghost use Rattle.planner.specs.Planning.{planAnswer, planAfter, wordsAfter};
-ghost use Rattle.planner.specs.Promises.{RefusedTen, RefusedEleven, RefusedTwelve, AcceptedWhen, AmpleAccepted};
-ghost use Rattle.planner.specs.Promises.{ReturnsChosen, LendsCheapest, PricedAsPrinted, PrintedNear, NoneFarBelow, Leaves};
+ghost use Rattle.chain.specs.PlanBytes.{decode};
+ghost use Rattle.pricing.specs.Pricing.{priced, PricedAt};
+ghost use Rattle.planning.specs.Planning.{planAnswer, planAfter, wordsAfter};
+ghost use Rattle.planner.specs.Promises.{RefusedTen, RefusedEleven, RefusedTwelve, AcceptedWhen, AmpleAccepted, ReturnsChosen, LendsCheapest, PricedAsPrinted, PrintedNear, NoneFarBelow, Leaves};
 ghost use Rattle.nimovalsa.specs.Packed.{totalIn, numberIn, Returns};
-use checking::Answer;
+use base::Answer;
 
 // The answer as one u64: 2^56 is the first total that does not fit.
 fn pack(a: Answer) -> u64
-    requires { ⌜ InTable a × (a .total < 72_057_594_037_927_936) ⌝ }
+    requires { ⌜ InTable a × (a .total < totalBound) ⌝ }
     ensures { λ r. ⌜ Returns r a ⌝ }
 {
     a.total * 256 + (a.number as u64) * 4 + (a.option as u64)
@@ -55,7 +54,7 @@ pub extern "C" fn nimovalsa_price(sheet: &[u8], plan: &[u8]) -> u64
     ensures accepted { λ r. ⌜ ((total : ℕ) → ((numberIn r ≡ 0) × (totalIn r ≡ total)) ↔ PricedAt (now (sheet .entry)) (now (plan .entry)) total) ⌝ }
     ensures near { λ r. ⌜ (numberIn r ≡ 0 → TotalNear (sheetOf (now (sheet .entry))) (decode (now (plan .entry))) (totalIn r)) ⌝ }
 {
-    pack(chain::price(sheet, plan))
+    pack(pricing::price(sheet, plan))
 }
 
 // Planning: the rounded total of the chosen chain in units, and the number and the option of the refusal table. The plan of the chain is

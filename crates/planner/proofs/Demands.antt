@@ -1,27 +1,26 @@
 -- The promises of planning, in the order of `specs/Promises`, which says what they mean, for every sheet and all buffers (`promised`); `WayLaws`
--- and `DoneLaws` have why they hold. A call that meets its three equations meets them all (`met`). Assumes nothing.
+-- and `DoneLaws` have why they hold. A call that meets its three equations meets them all (`plan-answers`). Assumes nothing.
 use Prim.Native.Nat.{ℕ}
 use mathlib.Core.Path.{_≡_, ap, sym, subst, _∙_}
 use mathlib.Core.List.{List}
 use native.Mathlib.Omega.{arith}
+use Rattle.base.specs.Answer.{accepted}
+use Rattle.base.specs.declared.Answer.{Answer}
 use Rattle.sheet.specs.Sheet.{sheetOf}
-use Rattle.checking.specs.Answer.{accepted}
-use Rattle.checking.specs.declared.Answer.{Answer}
 use Rattle.checking.proofs.PassesLaws.{checked-iff}
 use Rattle.checking.proofs.FitLaws.{fit}
 use Rattle.chain.specs.Chain.{Chain, roundedTotal}
-use Rattle.chain.specs.Pricing.{priced}
+use Rattle.chain.specs.ChosenChain.{ChosenChain}
 use Rattle.chain.specs.Error.{TotalNear}
-use Rattle.chain.proofs.PriceLaws.{priced-encode}
 use Rattle.chain.proofs.ErrorOfChain.{total-near, chain-loss}
+use Rattle.chain.proofs.ChosenLaws.{chosen-chain-le, chosen-chain-only}
+use Rattle.pricing.specs.Pricing.{priced}
+use Rattle.pricing.proofs.PriceLaws.{priced-encode}
 use Rattle.tails.proofs.WordLaws.{words-cheapest-of-passes}
-use Rattle.front.specs.ChosenChain.{ChosenChain}
-use Rattle.front.proofs.PlannedLaws.{chosen-chain-le, chosen-chain-only}
-use Rattle.planner.specs.Planning.{found, planAnswer, planAfter, wordsAfter}
-use Rattle.planner.specs.Promises.{RefusedTen, RefusedEleven, RefusedTwelve, AcceptedWhen, AmpleAccepted, ReturnsChosen, LendsCheapest}
-use Rattle.planner.specs.Promises.{PricedAsPrinted, PrintedNear, NoneFarBelow, Leaves}
-use Rattle.planner.proofs.PlanningLaws.{words-lent}
-use Rattle.planner.proofs.WayLaws.{way, ten-of, ten-when, eleven-of, eleven-when, twelve-of, twelve-when, zero-when, ample-when}
+use Rattle.planning.specs.Planning.{found, planAnswer, planAfter, wordsAfter}
+use Rattle.planning.proofs.PlanningLaws.{words-lent}
+use Rattle.planner.specs.Promises.{RefusedTen, RefusedEleven, RefusedTwelve, AcceptedWhen, AmpleAccepted, ReturnsChosen, LendsCheapest, PricedAsPrinted, PrintedNear, NoneFarBelow, Leaves}
+use Rattle.planner.proofs.WayLaws.{way, ten-when, eleven-when, twelve-when, zero-when, ample-when, ten-of, eleven-of, twelve-of}
 use Rattle.planner.proofs.DoneLaws.{done, done-sum, done-decode, done-count, done-field, done-bytes, done-length, way-leaves}
 
 module _ (s plan words : List ℕ) where
@@ -141,11 +140,11 @@ promised s plan words n t b w =
       ),
     )
 
-pub met :
+pub plan-answers :
     (s plan words : List ℕ) {r : Answer} {plan′ words′ : List ℕ}
     → (r ≡ planAnswer s plan words) × (plan′ ≡ planAfter s plan words) × (words′ ≡ wordsAfter s plan words)
     → (r ≡ planAnswer s plan words)
     × ((plan′ ≡ planAfter s plan words)
     × ((words′ ≡ wordsAfter s plan words) × Promised s plan words (r .number) (r .total) plan′ words′))
-met s plan words h =
+plan-answers s plan words h =
     (h .0, (h .1, (h .2, promised s plan words (ap (λ (a : Answer). a .number) (h .0)) (ap (λ (a : Answer). a .total) (h .0)) (h .1) (h .2))))

@@ -1,28 +1,29 @@
 -- When a plan was written (`done`): the total answered is the chain's (`done-sum`); from the buffer, whose length is kept (`done-length`), the
 -- chain is read (`done-decode`), its count and total (`done-count`, `done-field`) and its bytes (`done-bytes`). What each way leaves of the
 -- buffers (`way-leaves`). Assumes nothing.
-use Prim.Native.Nat.{ℕ, _+_, _*_, _≤_}
+use Prim.Native.Nat.{ℕ, _≤_}
 use mathlib.Core.Path.{_≡_, ap, _∙_}
 use mathlib.Core.List.{List}
 use native.Mathlib.Omega.{arith}
 use lib.ListN.{length, getD, take}
 use lib.Seq.{length-sets}
+use Rattle.base.specs.declared.Answer.{Answer}
+use Rattle.base.proofs.StoreLaws.{written-behind}
 use Rattle.sheet.specs.Sheet.{sheetOf}
-use Rattle.checking.specs.declared.Answer.{Answer}
 use Rattle.checking.proofs.PassesLaws.{checked-iff}
 use Rattle.checking.proofs.FitLaws.{fit}
 use Rattle.chain.specs.Chain.{Chain, roundedTotal}
-use Rattle.chain.specs.PlanBytes.{encode, totalField, countField, decode}
-use Rattle.chain.proofs.PlanBytesLaws.{Narrow, encode-length}
+use Rattle.chain.specs.PlanBytes.{planSize, encode, totalField, countField, decode, Narrow}
 use Rattle.chain.proofs.FeasibleLaws.{narrow-of-feasible}
 use Rattle.chain.proofs.TotalLaws.{roundedTotal-lt}
-use Rattle.writing.proofs.WriteLaws.{written-behind}
-use Rattle.writing.proofs.ReadLaws.{written-total, written-count, written-plan, written-decode}
+use Rattle.chain.proofs.PlanBytesLaws.{encode-length}
+use Rattle.chain.proofs.ReadLaws.{written-total, written-count, written-plan, written-decode}
 use Rattle.tails.proofs.WordLaws.{tail-words-length}
-use Rattle.planner.specs.Planning.{found, planAnswer, planAfter, wordsAfter}
+use Rattle.planning.specs.Planning.{found, planAnswer, planAfter, wordsAfter}
+use Rattle.planning.proofs.PlanningLaws.{words-lent}
 use Rattle.planner.specs.Promises.{Ready, Leaves}
-use Rattle.planner.proofs.PlanningLaws.{words-lent}
-use Rattle.planner.proofs.WayLaws.{Done, Way, faulty, few, none, short, written, way, numberOf, fault-some, done-of}
+use Rattle.planner.specs.Ways.{Done, Way, faulty, few, none, short, written}
+use Rattle.planner.proofs.WayLaws.{numberOf, way, fault-some, done-of}
 
 module _ (s plan words : List ℕ) where
   pub done : planAnswer s plan words .number ≡ 0 → Done s plan words
@@ -52,11 +53,11 @@ module _ (s plan words : List ℕ) where
         let small = roundedTotal-lt (sheetOf s) (fit s (d .ready .passes)) chain (d .chosen .feasible) in
         ap totalField (d .written) ∙ written-total plan units chain (d .room) (omega arith)
 
-    pub done-bytes : let after = planAfter s plan words in take (19 + 2 * countField after) after ≡ encode units chain
+    pub done-bytes : let after = planAfter s plan words in take (planSize (countField after)) after ≡ encode units chain
     done-bytes =
-        ap (λ (l : List ℕ). take (19 + 2 * countField l) l) (d .written) ∙ written-plan plan units chain (d .room) narrow
+        ap (λ (l : List ℕ). take (planSize (countField l)) l) (d .written) ∙ written-plan plan units chain (d .room) narrow
 
-    done-behind : (k : ℕ) → 19 + 2 * countField (planAfter s plan words) ≤ k → getD (planAfter s plan words) k 0 ≡ getD plan k 0
+    done-behind : (k : ℕ) → planSize (countField (planAfter s plan words)) ≤ k → getD (planAfter s plan words) k 0 ≡ getD plan k 0
     done-behind k l =
         ap (λ (l : List ℕ). getD l k 0) (d .written)
         ∙ written-behind plan (encode units chain) (omega (arith, d .room, encode-length units chain)) k

@@ -10,16 +10,16 @@ use Rattle.sheet.specs.Sheet.{PlanningSheet}
 use Rattle.sheet.specs.Parsed.{parsed}
 use Rattle.sheet.specs.declared.Sheet.{Sheet}
 use Rattle.sheet.proofs.ParsedLaws.{horizon-read}
-use Rattle.chain.specs.Chain.{Chain}
 use Rattle.choice.specs.Running.{noTotal}
-use Rattle.tails.specs.Tail.{tail}
-use Rattle.tails.specs.Words.{firstEnd, tailWords}
+use Rattle.chain.specs.Chain.{Chain}
+use Rattle.tails.specs.Tail.{tailFrom}
+use Rattle.tails.specs.Words.{wordsNeeded, firstsStart, firstEnd, tailWords}
 use Rattle.tails.proofs.WordLaws.{tail-words-read}
 use Rattle.front.specs.Planned.{planned}
 use Rattle.front.specs.Front.{front, TailsLent, FirstsLent, Follows}
 use Rattle.front.specs.declared.Front.{Front}
 use Rattle.front.proofs.TakenLaws.{planned-begins}
-use Rattle.planner.specs.Planning.{found}
+use Rattle.planning.specs.Planning.{found}
 
 module _ (p : PlanningSheet) (f : Front) (read : f ≡ front (planned p)) (there : f .total ≡ noTotal → ⊥) (count : ℕ) (ends : List ℕ)
     (follows : Follows p (f .j) count ends) where
@@ -38,19 +38,19 @@ module _ (p : PlanningSheet) (f : Front) (read : f ≡ front (planned p)) (there
   found-few = omega (arith, length-take count ends, ap length (follows .1), follows .0)
 
 -- once they are written, the words have the totals of replacements from each year, and the end of the first of them
-module _ (s : Sheet) (far : s .horizon ≤ 300) (before after : List ℕ) (room : 602 ≤ length before) (same : length after ≡ length before)
+module _ (s : Sheet) (far : s .horizon ≤ 300) (before after : List ℕ) (room : wordsNeeded ≤ length before) (same : length after ≡ length before)
     (lent : (p : PlanningSheet) → s ≡ parsed p → after ≡ tailWords p before) where
   lent-read :
       (p : PlanningSheet) → s ≡ parsed p → (y : ℕ) → y ≤ p .horizon
-      → (getD after y 0 ≡ tail p y .total) × (getD after (301 + y) 0 ≡ firstEnd (tail p y))
+      → (getD after y 0 ≡ tailFrom p y .total) × (getD after (firstsStart + y) 0 ≡ firstEnd (tailFrom p y))
   lent-read p read y l = rw (lent p read) (tail-words-read p before (omega (arith, horizon-read s p read)) room y l)
 
   pub tails-lent : TailsLent s after
-  tails-lent = record { room = omega arith; totals = λ p read y l. lent-read p read y l .0 }
+  tails-lent = record { room = omega arith; held = λ p read y l. lent-read p read y l .0 }
 
-  pub firsts-lent : FirstsLent s (drop 301 after)
+  pub firsts-lent : FirstsLent s (drop firstsStart after)
   firsts-lent =
       record {
         room = simp length-drop (omega arith);
-        held = λ p read y l. getD-drop 301 after y 0 ∙ lent-read p read y l .1;
+        held = λ p read y l. getD-drop firstsStart after y 0 ∙ lent-read p read y l .1;
       }

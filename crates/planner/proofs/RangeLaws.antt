@@ -3,19 +3,20 @@ use Prim.Native.Nat.{ℕ, _≤_, _<_}
 use mathlib.Core.Path.{sym, subst}
 use mathlib.Core.List.{List}
 use native.Mathlib.Omega.{arith}
+use Rattle.base.specs.Answer.{refused, InTable, totalBound}
+use Rattle.base.specs.declared.Answer.{Answer}
 use Rattle.sheet.specs.Sheet.{sheetOf}
-use Rattle.checking.specs.Answer.{refused, InTable}
-use Rattle.checking.specs.declared.Answer.{Answer}
-use Rattle.checking.proofs.FitLaws.{fit}
 use Rattle.checking.proofs.RangeLaws.{checked-total, checked-range}
+use Rattle.checking.proofs.FitLaws.{fit}
 use Rattle.chain.proofs.TotalLaws.{roundedTotal-lt}
-use Rattle.planner.specs.Planning.{found, planAnswer}
-use Rattle.planner.proofs.WayLaws.{Way, faulty, few, none, short, written, way}
+use Rattle.planning.specs.Planning.{found, planAnswer}
+use Rattle.planner.specs.Ways.{Way, faulty, few, none, short, written}
+use Rattle.planner.proofs.WayLaws.{way}
 
 -- the number is one of the table's, and the total leaves room for number and option
 pub record Small (a : Answer) : Type 0 where
   pub table : InTable a
-  pub total : a .total < 72_057_594_037_927_936
+  pub total : a .total < totalBound
 
 refused-small : (number : ℕ) → number ≤ 14 → Small (refused number 3)
 refused-small number l = record { table = record { number = l; option = omega arith }; total = omega arith }

@@ -1,7 +1,7 @@
--- The ways in which planning ends (`way`): a faulty sheet, too few words, no chain, a buffer that is too short, a plan written. Each number
--- comes from one of them (`ten-of`, `eleven-of`, `twelve-of`, `done-of`; that of a faulty sheet is not 0, `fault-some`), and where its facts hold
--- it is answered (`ten-when`, `eleven-when`, `twelve-when`, `zero-when`, `ample-when`). Assumes nothing.
-use Prim.Native.Nat.{ℕ, _+_, _*_, _≤_, _<_}
+-- In which way planning ends (`way`). Each number comes from one of the ways (`ten-of`, `eleven-of`, `twelve-of`, `done-of`; that of a faulty
+-- sheet is not 0, `fault-some`), and where its facts hold it is answered (`ten-when`, `eleven-when`, `twelve-when`, `zero-when`, `ample-when`).
+-- Assumes nothing.
+use Prim.Native.Nat.{ℕ, _≤_, _<_}
 use mathlib.Core.Path.{_≡_, refl, ap, sym, subst, _∙_}
 use mathlib.Core.List.{List}
 use native.Mathlib.Nat.{pos-of-ne-zero}
@@ -10,48 +10,28 @@ use lib.Dec.{leb, ltb, eqb}
 use lib.ListN.{length}
 use lib.Seq.{sets}
 use borrow.Author.Tests.{eqb-true, eqb-false, leb-true, leb-false, ltb-true, ltb-false}
+use Rattle.base.specs.Answer.{accepted}
+use Rattle.base.specs.declared.Answer.{Answer}
+use Rattle.base.proofs.TestLaws.{by-test}
 use Rattle.sheet.specs.Sheet.{PlanningSheet, sheetOf}
-use Rattle.checking.specs.Answer.{accepted, refused}
 use Rattle.checking.specs.Refusals.{checked}
 use Rattle.checking.specs.Passes.{Passes}
-use Rattle.checking.specs.declared.Answer.{Answer}
-use Rattle.checking.proofs.TestLaws.{by-test}
 use Rattle.checking.proofs.PassesLaws.{checked-iff}
 use Rattle.checking.proofs.RangeLaws.{checked-number-le}
 use Rattle.checking.proofs.FitLaws.{fit}
-use Rattle.chain.specs.Chain.{Chain, Feasible, roundedTotal}
-use Rattle.chain.specs.PlanBytes.{encode}
-use Rattle.chain.proofs.FeasibleLaws.{few-ends}
 use Rattle.choice.specs.Running.{noTotal}
+use Rattle.chain.specs.Chain.{Chain, Feasible}
+use Rattle.chain.specs.ChosenChain.{ChosenChain}
+use Rattle.chain.specs.PlanBytes.{planSize, planLength, encode}
+use Rattle.chain.proofs.FeasibleLaws.{few-ends}
+use Rattle.chain.proofs.ChosenLaws.{chosen-chain-only}
+use Rattle.tails.specs.Words.{wordsNeeded}
 use Rattle.front.specs.Planned.{planned}
-use Rattle.front.specs.ChosenChain.{ChosenChain}
-use Rattle.front.proofs.PlannedLaws.{planned-none, planned-chosen, chosen-chain-only}
-use Rattle.planner.specs.Planning.{found, planLength, planAnswer, planAfter, wordsAfter}
+use Rattle.front.proofs.PlannedLaws.{planned-none, planned-chosen}
+use Rattle.planning.specs.Planning.{found, planAnswer}
+use Rattle.planning.proofs.PlanningLaws.{planning-none, planning-short, planning-fits, plan-refused, plan-few, plan-on}
 use Rattle.planner.specs.Promises.{Ready}
-use Rattle.planner.proofs.PlanningLaws.{planning-none, planning-short, planning-fits, plan-refused, plan-few, plan-on}
-
--- a plan was written: there is a chosen chain, the buffer is long enough for it, and its rounded total is answered
-pub record Done (s plan words : List ℕ) : Type 0 where
-  pub ready : Ready s words
-  pub chosen : ChosenChain (sheetOf s) (found (sheetOf s))
-  pub room : planLength (found (sheetOf s)) ≤ length plan
-  pub answer : planAnswer s plan words ≡ accepted (roundedTotal (sheetOf s) (found (sheetOf s)))
-  pub written : planAfter s plan words ≡ sets plan 0 (encode (roundedTotal (sheetOf s) (found (sheetOf s))) (found (sheetOf s)))
-
--- what is said of the call in each way
-pub data Way (s plan words : List ℕ) : Type 0 where
-  faulty :
-      (Passes s → ⊥) → planAnswer s plan words ≡ checked s → planAfter s plan words ≡ plan → wordsAfter s plan words ≡ words → Way s plan words
-  few :
-      Passes s → length words < 602 → planAnswer s plan words ≡ refused 10 3 → planAfter s plan words ≡ plan → wordsAfter s plan words ≡ words
-      → Way s plan words
-  none :
-      Ready s words → ((c : Chain) → Feasible (sheetOf s) c → ⊥) → planAnswer s plan words ≡ refused 11 3 → planAfter s plan words ≡ plan
-      → Way s plan words
-  short :
-      Ready s words → ChosenChain (sheetOf s) (found (sheetOf s)) → length plan < planLength (found (sheetOf s))
-      → planAnswer s plan words ≡ refused 12 3 → planAfter s plan words ≡ plan → Way s plan words
-  written : Done s plan words → Way s plan words
+use Rattle.planner.specs.Ways.{Done, Way, faulty, few, none, short, written}
 
 pub numberOf : {a b : Answer} → a ≡ b → a .number ≡ b .number
 numberOf e = ap (λ (a : Answer). a .number) e
@@ -108,9 +88,9 @@ module _ (s plan words : List ℕ) where
 
   way-passed : Passes s → Way s plan words
   way-passed h =
-      by-test (leb 602 (length words)) (λ t. way-ready (record { passes = h; enough = leb-true 602 (length words) t }))
+      by-test (leb wordsNeeded (length words)) (λ t. way-ready (record { passes = h; enough = leb-true wordsNeeded (length words) t }))
       (λ t.
-      let l = leb-false 602 (length words) t in
+      let l = leb-false wordsNeeded (length words) t in
       let o = plan-few s plan words (checked-iff s .1 h) l in
       few h l (sym (o .0)) (sym (o .1)) (sym (o .2)))
 
@@ -123,7 +103,7 @@ module _ (s plan words : List ℕ) where
       faulty (λ h. fault (checked-iff s .1 h)) (sym (o .0)) (sym (o .1)) (sym (o .2)))
 
   -- where the facts hold, the number is answered
-  pub ten-when : Passes s × (length words < 602) → planAnswer s plan words .number ≡ 10
+  pub ten-when : Passes s × (length words < wordsNeeded) → planAnswer s plan words .number ≡ 10
   ten-when h = sym (numberOf (plan-few s plan words (checked-iff s .1 (h .0)) (h .1) .0))
 
   pub eleven-when : Ready s words × ((c : Chain) → Feasible p c → ⊥) → planAnswer s plan words .number ≡ 11
@@ -150,7 +130,7 @@ module _ (s plan words : List ℕ) where
 
   -- a chain has at most T replacements
   pub ample-when :
-      Ready s words → 19 + 2 * p .horizon ≤ length plan → (c : Chain) → Feasible p c → planAnswer s plan words .number ≡ 0
+      Ready s words → planSize (p .horizon) ≤ length plan → (c : Chain) → Feasible p c → planAnswer s plan words .number ≡ 0
   ample-when h room c f =
       let there = there-when h c f in
       let chosen = planned-chosen p (fit s (h .passes)) there .0 in
@@ -166,7 +146,7 @@ module _ (s plan words : List ℕ) (e : planAnswer s plan words ≡ checked s) w
 
 -- each number comes from one way
 module _ {s plan words : List ℕ} where
-  pub ten-of : Way s plan words → planAnswer s plan words .number ≡ 10 → Passes s × (length words < 602)
+  pub ten-of : Way s plan words → planAnswer s plan words .number ≡ 10 → Passes s × (length words < wordsNeeded)
   ten-of (faulty f a l w) e = absurd (omega (arith, fault-number s plan words a))
   ten-of (few h l a b w) e = (h, l)
   ten-of (none h f a l) e = absurd (omega (arith, numberOf a))

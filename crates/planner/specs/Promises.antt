@@ -10,26 +10,26 @@ use mathlib.Core.Path.{_≡_}
 use mathlib.Core.List.{List}
 use mathlib.Core.Logic.{_↔_}
 use lib.ListN.{length, getD, take}
+use Rattle.base.specs.Answer.{accepted}
 use Rattle.sheet.specs.Sheet.{PlanningSheet, sheetOf}
-use Rattle.checking.specs.Answer.{accepted}
 use Rattle.checking.specs.Passes.{Passes}
 use Rattle.costing.specs.Error.{allowance}
 use Rattle.chain.specs.Chain.{Chain, Feasible, roundedTotal, exactValue}
-use Rattle.chain.specs.PlanBytes.{totalField, countField, decode}
-use Rattle.chain.specs.Pricing.{priced}
+use Rattle.chain.specs.ChosenChain.{ChosenChain}
 use Rattle.chain.specs.Error.{denominator, TotalNear}
+use Rattle.chain.specs.PlanBytes.{planSize, planLength, totalField, countField, decode}
+use Rattle.pricing.specs.Pricing.{priced}
+use Rattle.tails.specs.Words.{wordsNeeded}
 use Rattle.tails.specs.Cheapest.{CheapestWords}
-use Rattle.front.specs.ChosenChain.{ChosenChain}
-use Rattle.planner.specs.Planning.{planLength}
 
 -- the sheet passes the checks, which is where `check` answers 0, and at least 602 words are lent
 pub record Ready (s words : List ℕ) : Type 0 where
   pub passes : Passes s
-  pub enough : 602 ≤ length words
+  pub enough : wordsNeeded ≤ length words
 
 -- 10 exactly where a sheet that passes comes with fewer than 602 words
 abbrev pub RefusedTen : (s words : List ℕ) (number : ℕ) → Type 0
-RefusedTen s words number = (number ≡ 10) ↔ (Passes s × (length words < 602))
+RefusedTen s words number = (number ≡ 10) ↔ (Passes s × (length words < wordsNeeded))
 
 -- 11 exactly where no feasible chain exists
 abbrev pub RefusedEleven : (s words : List ℕ) (number : ℕ) → Type 0
@@ -48,13 +48,13 @@ AcceptedWhen s plan words number =
 -- with long enough buffers, 602 words and 19 + 2T plan bytes, a sheet that passes is accepted as soon as some chain is feasible
 abbrev pub AmpleAccepted : (s plan words : List ℕ) (number : ℕ) → Type 0
 AmpleAccepted s plan words number =
-    Ready s words → 19 + 2 * sheetOf s .horizon ≤ length plan → (c : Chain) → Feasible (sheetOf s) c → number ≡ 0
+    Ready s words → planSize (sheetOf s .horizon) ≤ length plan → (c : Chain) → Feasible (sheetOf s) c → number ≡ 0
 
 -- The returned chain is the one that the written plan holds; the plan lies whole in its buffer. The chain is feasible; no feasible chain has a
 -- smaller rounded total; of equal totals it has the largest i, then the largest j, then the later end at the first replacement where they
 -- differ; it is the only such chain. The printed total is its rounded total: the plan's total field and the total answered are one number.
 pub record Returned (p : PlanningSheet) (total : ℕ) (plan′ : List ℕ) : Type 0 where
-  pub whole : 19 + 2 * countField plan′ ≤ length plan′
+  pub whole : planSize (countField plan′) ≤ length plan′
   pub chosen : ChosenChain p (decode plan′)
   pub least : (c : Chain) → Feasible p c → total ≤ roundedTotal p c
   pub only : (c : Chain) → ChosenChain p c → c ≡ decode plan′
@@ -70,7 +70,7 @@ LendsCheapest s words words′ = Ready s words → CheapestWords (sheetOf s) wor
 
 -- the first 19 + 2m bytes of what is written are priced at the total that was answered
 abbrev pub PricedAsPrinted : (s : List ℕ) (number total : ℕ) (plan′ : List ℕ) → Type 0
-PricedAsPrinted s number total plan′ = number ≡ 0 → priced s (take (19 + 2 * countField plan′) plan′) ≡ accepted total
+PricedAsPrinted s number total plan′ = number ≡ 0 → priced s (take (planSize (countField plan′)) plan′) ≡ accepted total
 
 -- the printed total is within (5T² + 3T)/4 units of the returned chain's exact value, both ways
 abbrev pub PrintedNear : (s : List ℕ) (number total : ℕ) (plan′ : List ℕ) → Type 0
@@ -88,5 +88,5 @@ NoneFarBelow s number plan′ =
 pub record Leaves (number : ℕ) (plan words plan′ words′ : List ℕ) : Type 0 where
   pub planLeft : (number ≡ 0 → ⊥) → plan′ ≡ plan
   pub wordsLeft : 1 ≤ number → number ≤ 10 → words′ ≡ words
-  pub behind : number ≡ 0 → (k : ℕ) → 19 + 2 * countField plan′ ≤ k → getD plan′ k 0 ≡ getD plan k 0
+  pub behind : number ≡ 0 → (k : ℕ) → planSize (countField plan′) ≤ k → getD plan′ k 0 ≡ getD plan k 0
   pub lengths : (length plan′ ≡ length plan) × (length words′ ≡ length words)

@@ -1,10 +1,9 @@
 // Planning: document 01, 'Feasible chains'. The public call is `plan`.
 
 ghost use mathlib.Core.Path.{_≡_};
-ghost use Rattle.planner.specs.Planning.{planAnswer, planAfter, wordsAfter};
-ghost use Rattle.planner.specs.Promises.{RefusedTen, RefusedEleven, RefusedTwelve, AcceptedWhen, AmpleAccepted};
-ghost use Rattle.planner.specs.Promises.{ReturnsChosen, LendsCheapest, PricedAsPrinted, PrintedNear, NoneFarBelow, Leaves};
-use checking::Answer;
+ghost use Rattle.planning.specs.Planning.{planAnswer, planAfter, wordsAfter};
+ghost use Rattle.planner.specs.Promises.{RefusedTen, RefusedEleven, RefusedTwelve, AcceptedWhen, AmpleAccepted, ReturnsChosen, LendsCheapest, PricedAsPrinted, PrintedNear, NoneFarBelow, Leaves};
+use base::Answer;
 
 mod written;
 
@@ -29,8 +28,8 @@ pub fn plan(sheet: &[u8], plan: &mut [u8], words: &mut [u64]) -> Answer
     if checked.number != 0 {
         return checked;
     }
-    if words.len() < 602 {
-        return checking::refused(10, 3);
+    if words.len() < tails::WORDS {
+        return base::refused(10, 3);
     }
     let parsed = sheet::parse(sheet);
     tails::tail_words(words, parsed);

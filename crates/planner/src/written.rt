@@ -3,18 +3,19 @@
 ghost use mathlib.Core.Path.{_≡_};
 ghost use lib.ListN.{length, drop};
 ghost use Rattle.sheet.specs.Sheet.{PlanningSheet};
-ghost use Rattle.sheet.specs.Parsed.{parsed, IsParsed};
-ghost use Rattle.checking.specs.Fit.{Fit};
+ghost use Rattle.sheet.specs.Parsed.{parsed};
+ghost use Rattle.checking.specs.Fit.{SheetFits};
+ghost use Rattle.tails.specs.Words.{firstsStart};
 ghost use Rattle.front.specs.Front.{TailsLent, FirstsLent};
-ghost use Rattle.planner.specs.Planning.{planning, planWritten};
-use checking::Answer;
+ghost use Rattle.planning.specs.Planning.{planning, planWritten};
+use base::Answer;
 use division::Divisor;
 use sheet::Sheet;
-use tails::weighing;
+use weighing;
 
 // Finds the chosen chain by the words, and writes its plan where there is one and the buffer is long enough for it.
 pub fn write_chosen(sheet: Sheet, plan: &mut [u8], words: &[u64]) -> Answer
-    requires { ⌜ Fit sheet × IsParsed sheet × TailsLent sheet (now words) × FirstsLent sheet (drop 301 (now words)) ⌝ }
+    requires { ⌜ SheetFits sheet × TailsLent sheet (now words) × FirstsLent sheet (drop firstsStart (now words)) ⌝ }
     ensures answer { λ r. ⌜ ((p : PlanningSheet) → sheet ≡ parsed p → r ≡ planning p (length (now (plan .entry)))) ⌝ }
     ensures plan { λ _. ⌜ ((p : PlanningSheet) → sheet ≡ parsed p → now (plan .exit) ≡ planWritten p (now (plan .entry))) ⌝ }
 {
@@ -23,13 +24,13 @@ pub fn write_chosen(sheet: Sheet, plan: &mut [u8], words: &[u64]) -> Answer
     let total = chosen.total;
     let j = chosen.j;
     if total == weighing::NONE {
-        return checking::refused(11, 3);
+        return base::refused(11, 3);
     }
     let mut ends = [0u64; 300];
-    let count = front::ends_from(&mut ends, &words[301..], sheet, j);
+    let count = front::ends_from(&mut ends, &words[tails::FIRSTS..], sheet, j);
     if plan.len() < 19 + 2 * count {
-        return checking::refused(12, 3);
+        return base::refused(12, 3);
     }
-    writing::write_plan(plan, total, chosen.i, j, &ends, count);
-    checking::accepted(total)
+    chain::writing::write_plan(plan, total, chosen.i, j, &ends, count);
+    base::accepted(total)
 }

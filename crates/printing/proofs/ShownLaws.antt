@@ -6,22 +6,26 @@ use mathlib.Core.List.{List}
 use native.Mathlib.Omega.{arith}
 use lib.ListN.{length, take, length-replicate}
 use borrow.Author.Tests.{eq-eqb, ne-eqb, le-leb, lt-leb}
+use Rattle.base.specs.Answer.{refused}
+use Rattle.base.specs.declared.Answer.{Answer}
 use Rattle.sheet.specs.Sheet.{sheetOf}
-use Rattle.checking.specs.Answer.{refused}
 use Rattle.checking.specs.Refusals.{checked}
 use Rattle.checking.specs.Passes.{Passes}
-use Rattle.checking.specs.declared.Answer.{Answer}
 use Rattle.checking.proofs.PassesLaws.{checked-iff}
 use Rattle.chain.specs.Chain.{Chain, Feasible, roundedTotal}
+use Rattle.chain.specs.PlanBytes.{planLength}
 use Rattle.chain.proofs.FeasibleLaws.{few-ends}
-use Rattle.front.proofs.PlannedLaws.{chosen-chain-only}
-use Rattle.planner.specs.Planning.{found, planLength, planAnswer, planAfter}
-use Rattle.planner.proofs.WayLaws.{Done, Way, faulty, few, none, short, written, way}
+use Rattle.chain.proofs.ChosenLaws.{chosen-chain-only}
+use Rattle.tails.specs.Words.{wordsNeeded}
+use Rattle.planning.specs.Planning.{found, planAnswer, planAfter}
+use Rattle.planner.specs.Ways.{Done, Way, faulty, few, none, short, written}
+use Rattle.planner.proofs.WayLaws.{way}
 use Rattle.planner.proofs.DoneLaws.{done-decode, done-field}
-use Rattle.printing.specs.Lines.{planLines, linesOf, refusedLine}
-use Rattle.printing.specs.Puts.{Puts}
-use Rattle.printing.specs.Showing.{textFor, Front, printed, planRoom, planWords, shown, textAfter, textLength, Shows}
-use Rattle.printing.proofs.TextLaws.{front, put-front, put-length, put-read}
+use Rattle.lines.specs.Lines.{planLines, linesOf, refusedLine}
+use Rattle.lines.specs.Texts.{textFor, AtFront}
+use Rattle.lines.specs.Puts.{Puts}
+use Rattle.lines.proofs.TextLaws.{at-front, put-front, put-length, put-read}
+use Rattle.printing.specs.Showing.{printed, planRoom, planWords, shown, textAfter, textLength, Shows}
 
 -- what is printed of an answer
 printed-lines : (a : Answer) (plan : List ℕ) → a .number ≡ 0 → printed a plan ≡ linesOf plan
@@ -34,8 +38,8 @@ printed-refused a plan h = rw (ne-eqb (a .number) 0 h)
 
 -- the plan bytes and the words are enough
 module _ (s : List ℕ) where
-  ready-words : 602 ≤ length planWords
-  ready-words = omega (arith, length-replicate {A = ℕ} 602 0)
+  ready-words : wordsNeeded ≤ length planWords
+  ready-words = omega (arith, length-replicate {A = ℕ} wordsNeeded 0)
 
   ready-room : Passes s → (c : Chain) → Feasible (sheetOf s) c → planLength c ≤ length planRoom
   ready-room h c f = omega (arith, length-replicate {A = ℕ} 619 0, h .header .horizon .1, few-ends (sheetOf s) c f)
@@ -84,16 +88,16 @@ module _ (s : List ℕ) where
 
   module _ (text : List ℕ) where
     -- what the text holds and what is answered
-    abbrev Outcome : (text′ : List ℕ) (r : ℕ) → Type 0
-    Outcome text′ r =
+    abbrev SheetPut : (text′ : List ℕ) (r : ℕ) → Type 0
+    SheetPut text′ r =
         (text′ ≡ textAfter s text)
-        × ((r ≡ textLength s text) × (Front r text′ × (textFor 300 ≤ length text → Shows s (take r text′))))
+        × ((r ≡ textLength s text) × (AtFront r text′ × (textFor 300 ≤ length text → Shows s (take r text′))))
 
-    pub sheet-left : length text < textFor 300 → Outcome text 0
+    pub sheet-left : length text < textFor 300 → SheetPut text 0
     unfolding textAfter textLength
-    sheet-left h = rw (lt-leb (textFor 300) (length text) h) (refl, (refl, (front 0 text (omega arith), λ k. absurd (omega arith))))
+    sheet-left h = rw (lt-leb (textFor 300) (length text) h) (refl, (refl, (at-front 0 text (omega arith), λ k. absurd (omega arith))))
 
-    pub sheet-put : textFor 300 ≤ length text → (text′ : List ℕ) (r : ℕ) → Puts text 0 (shown s) text′ r → Outcome text′ r
+    pub sheet-put : textFor 300 ≤ length text → (text′ : List ℕ) (r : ℕ) → Puts text 0 (shown s) text′ r → SheetPut text′ r
     unfolding textAfter textLength
     sheet-put h text′ r put =
         rw (le-leb (textFor 300) (length text) h)

@@ -1,5 +1,3 @@
--- The definitions of printing, in reading order.
-pub mod Lines
+-- The definitions of printing, in reading order: what is printed of a sheet, and the cases.
 pub mod Showing
-pub mod Puts
 pub mod Cases

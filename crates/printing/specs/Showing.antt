@@ -1,40 +1,21 @@
 -- What is printed of a sheet, and what is left in a lent text: document 01, the program `planshow`. Definitions only.
-use Prim.Native.Nat.{ℕ, _+_, _*_, _≤_}
+use Prim.Native.Nat.{ℕ}
 use mathlib.Core.Path.{_≡_}
-use mathlib.Core.Bool.{Bool, cond, _&&_}
+use mathlib.Core.Bool.{Bool, cond}
 use mathlib.Core.List.{List}
 use lib.Dec.{leb, eqb}
-use lib.ListN.{length, take, replicate}
+use lib.ListN.{length, replicate}
 use lib.Seq.{sets}
+use Rattle.base.specs.declared.Answer.{Answer}
 use Rattle.sheet.specs.Sheet.{sheetOf}
 use Rattle.checking.specs.Refusals.{checked}
 use Rattle.checking.specs.Passes.{Passes}
-use Rattle.checking.specs.declared.Answer.{Answer}
 use Rattle.chain.specs.Chain.{Chain, Feasible, roundedTotal}
-use Rattle.chain.specs.PlanBytes.{countField}
-use Rattle.front.specs.ChosenChain.{ChosenChain}
-use Rattle.planner.specs.Planning.{planAnswer, planAfter}
-use Rattle.printing.specs.Lines.{planLines, linesOf, refusedLine}
-
--- A text of 69 + 20m bytes holds the lines of every plan: 27 of the total, 21 each of maintain and renovate, 20 of each replacement. A total
--- has at most 20 digits, a year at most 5.
-abbrev pub textFor : (m : ℕ) → ℕ
-textFor m = 69 + 20 * m
-
--- the plan lies whole in its bytes, and the text is long enough for it
-abbrev pub printable : (plan text : List ℕ) → Bool
-printable plan text = leb (19 + 2 * countField plan) (length plan) && leb (textFor (countField plan)) (length text)
-
--- what a text holds after a plan was printed to its front, and how many bytes that took; else it is left, and they are 0
-unfoldable pub linesAfter : (plan text : List ℕ) → List ℕ
-linesAfter plan text = cond (printable plan text) (sets text 0 (linesOf plan)) text
-
-unfoldable pub linesLength : (plan text : List ℕ) → ℕ
-linesLength plan text = cond (printable plan text) (length (linesOf plan)) 0
-
--- so many bytes at the front of a text; the second part follows from the first, and is what lending them asks
-abbrev pub Front : ℕ → List ℕ → Type 0
-Front n text = (n ≤ length text) × (n ≡ length (take n text))
+use Rattle.chain.specs.ChosenChain.{ChosenChain}
+use Rattle.tails.specs.Words.{wordsNeeded}
+use Rattle.planning.specs.Planning.{planAnswer, planAfter}
+use Rattle.lines.specs.Lines.{planLines, linesOf, refusedLine}
+use Rattle.lines.specs.Texts.{textFor}
 
 -- what planning answered and wrote: the lines of the plan, or the refusal
 unfoldable pub printed : Answer → (plan : List ℕ) → List ℕ
@@ -45,7 +26,7 @@ abbrev pub planRoom : List ℕ
 planRoom = replicate 619 0
 
 abbrev pub planWords : List ℕ
-planWords = replicate 602 0
+planWords = replicate wordsNeeded 0
 
 unfoldable pub shown : (sheet : List ℕ) → List ℕ
 shown s = printed (planAnswer s planRoom planWords) (planAfter s planRoom planWords)

@@ -1,12 +1,12 @@
 -- Laws of `factor`. In order:
 --     factor-positive, factor-none, factor-negative      the factor of an i32, by its four bytes
---     factor-value    the factor of f is 1,000,000 + f, for f from −1,000,000 up
+--     factor-value      the factor of f is 1,000,000 + f, for f from −1,000,000 up
 --     factor-low      f is at least −100,000 exactly where its factor is at least 900,000
---     factor-high     f is at most r exactly where its factor is at most 1,000,000 + r
+--     factor-high      f is at most r exactly where its factor is at most 1,000,000 + r
 -- Assumes nothing.
 use Prim.Native.Nat.{ℕ, suc, _+_, _-_, _≤_, _<_}
 use mathlib.Core.Path.{_≡_, refl, sym}
-use mathlib.Core.Bool.{Bool, true, false}
+use mathlib.Core.Bool.{true}
 use native.Mathlib.Omega.{arith}
 use lib.Dec.{leb}
 use lib.IntN.{ℤ, pos, negsuc, negℤ, _+ℤ_}
@@ -14,17 +14,8 @@ use lib.Signed.{leZ}
 use mir.Val.{toZ}
 use mir.Syntax.{w32}
 use borrow.Author.Tests.{leb-true, le-leb, lt-ltb, le-ltb}
+use Rattle.base.proofs.TestLaws.{leb-same}
 use Rattle.sheet.specs.Sheet.{factor}
-
--- two tests that hold together are equal
-bool-same : (a b : Bool) → (a ≡ true → b ≡ true) → (b ≡ true → a ≡ true) → a ≡ b
-bool-same true b f g = sym (f refl)
-bool-same false true f g = g refl
-bool-same false false f g = refl
-
-leb-same : (a b c d : ℕ) → (a ≤ b → c ≤ d) → (c ≤ d → a ≤ b) → leb a b ≡ leb c d
-leb-same a b c d f g =
-    bool-same (leb a b) (leb c d) (λ e. le-leb c d (f (leb-true a b e))) (λ e. le-leb a b (g (leb-true c d e)))
 
 -- four bytes stand for a number from 0 up, for one below −1,000,000, or for one between
 pub factor-positive : (x : ℕ) → x < 2_147_483_648 → 1_000_000 + x ≡ factor (toZ w32 x)

@@ -1,19 +1,14 @@
--- Laws of `Parsed.antt`: what stands at an index of the code's lists (`getD-listed`, `getD-options`), and what a parsed sheet holds of
--- document 01's (`horizon-read`, `discount-read`, `terms-read`). Then, of `Sheet.antt`: an investment does not age. Assumes nothing.
-use Prim.Native.Nat.{ℕ, zero, suc, _+_, _<_}
+-- Laws of `Parsed.antt`: the terms at an index of the code's options (`getD-options`), and what a parsed sheet holds of document 01's
+-- (`horizon-read`, `discount-read`, `terms-read`). Then, of `Sheet.antt`: an investment does not age. Assumes nothing.
+use Prim.Native.Nat.{ℕ, _+_, _<_}
 use mathlib.Core.Path.{_≡_, refl, ap}
 use mathlib.Core.List.{List}
-use native.Mathlib.Nat.{le-of-suc-le-suc, not-suc-le-zero}
 use lib.ListN.{getD}
+use Rattle.base.proofs.ListsLaws.{getD-listed}
 use Rattle.sheet.specs.Sheet.{PlanningSheet, onceAt, optionAt, sheetOf}
-use Rattle.sheet.specs.Parsed.{listed, termsOf, parsed}
+use Rattle.sheet.specs.Parsed.{termsOf, parsed}
 use Rattle.sheet.specs.declared.Sheet.{Sheet}
 use Rattle.sheet.specs.declared.Terms.{Terms}
-
-pub getD-listed : {A : Type 0} (n : ℕ) (f : ℕ → A) (j : ℕ) (other : A) → j < n → getD (listed n f) j other ≡ f j
-getD-listed zero f j other h = absurd (not-suc-le-zero h)
-getD-listed (suc n) f zero other h = refl
-getD-listed (suc n) f (suc j) other h = getD-listed n (λ i. f (suc i)) j other (le-of-suc-le-suc h)
 
 -- the terms of option k
 pub getD-options : (p : PlanningSheet) (k : ℕ) (other : Terms) → k < 3 → getD (parsed p .options) k other ≡ termsOf (p .option k)

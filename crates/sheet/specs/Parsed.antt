@@ -1,18 +1,13 @@
 -- How the code holds a sheet: the same fields, with each rate as its factor, 1,000,000 + rate, and the overhauls' ages and amounts in
--- two lists of eight. Definitions only.
-use Prim.Native.Nat.{ℕ, zero, suc, _+_}
-use mathlib.Core.Path.{_≡_}
-use mathlib.Core.List.{List, [], _∷_}
+-- two lists of eight. And the terms that are read where there is no option. Definitions only.
+use Prim.Native.Nat.{_+_}
+use mathlib.Core.List.{[]}
+use Rattle.base.specs.Lists.{listed}
 use Rattle.sheet.specs.Sheet.{Expense, OptionRecord, PlanningSheet, factor}
 use Rattle.sheet.specs.declared.Flow.{Flow}
 use Rattle.sheet.specs.declared.Overhauls.{Overhauls}
-use Rattle.sheet.specs.declared.Terms.{Terms}
 use Rattle.sheet.specs.declared.Sheet.{Sheet}
-
--- f 0, f 1, .., f (n − 1)
-abbrev pub listed : {A : Type 0} → ℕ → (ℕ → A) → List A
-listed zero f = []
-listed (suc n) f = f 0 ∷ listed n (λ j. f (suc j))
+use Rattle.sheet.specs.declared.Terms.{Terms}
 
 unfoldable pub flowOf : Expense → Flow
 flowOf e = record { amount = e .amount; grow = factor (e .inflation); age = 1_000_000 + e .ageing }
@@ -45,6 +40,14 @@ parsed p =
       options = listed 3 (λ k. termsOf (p .option k));
     }
 
--- the parsed form of some planning sheet
-abbrev pub IsParsed : Sheet → Type 0
-IsParsed s = (p : PlanningSheet) × (s ≡ parsed p)
+-- what the code's array of options would give past its end
+abbrev pub noTerms : Terms
+noTerms =
+    record {
+      shortest = 0;
+      longest = 0;
+      investment = record { amount = 0; grow = 0; age = 0 };
+      maintenance = record { amount = 0; grow = 0; age = 0 };
+      electricity = record { amount = 0; grow = 0; age = 0 };
+      overhauls = record { grow = 0; count = 0; ages = []; amounts = [] };
+    }

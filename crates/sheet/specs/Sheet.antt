@@ -4,7 +4,8 @@ use Prim.Native.Nat.{ℕ, suc, _+_, _*_, _-_}
 use mathlib.Core.List.{List}
 use lib.ListN.{getD}
 use lib.IntN.{ℤ, pos, negsuc}
-use Rattle.sheet.specs.Layout.{u16At, u32At, i32At, recordStart}
+use Rattle.base.specs.Numbers.{u16At, u32At, i32At}
+use Rattle.sheet.specs.Layout.{recordStart}
 
 -- an amount with f, its differential inflation, and g, its ageing rate
 pub record Expense : Type 0 where
@@ -66,3 +67,13 @@ sheetOf s =
 unfoldable pub factor : ℤ → ℕ
 factor (pos f) = 1_000_000 + f
 factor (negsuc f) = 1_000_000 - suc f
+
+-- the options by their numbers
+abbrev pub maintain : ℕ
+maintain = 0
+
+abbrev pub renovate : ℕ
+renovate = 1
+
+abbrev pub replace : ℕ
+replace = 2

@@ -1,6 +1,5 @@
 // A planning sheet of 278 bytes, read into structs by value. Document 01, 'The planning sheet'.
-// Nothing here is a public call: `parse`, the readers of single fields and those of `fields` serve the crates above, which meet what they
-// require.
+// Nothing here is a public call: `parse` and the readers of single fields serve the crates above, which meet what they require.
 
 ghost use mathlib.Core.Path.{_≡_};
 ghost use Prim.Native.Nat.{_+_, _<_};
@@ -8,8 +7,9 @@ ghost use lib.ListN.{length};
 ghost use Rattle.sheet.specs.Layout.{sheetLength};
 ghost use Rattle.sheet.specs.Sheet.{sheetOf};
 ghost use Rattle.sheet.specs.Parsed.{termsOf, parsed};
+use base::numbers;
 
-pub mod fields;
+mod fields;
 mod record;
 
 // Where the first of the three records starts, and how long each is.
@@ -18,6 +18,16 @@ const RECORDS: usize = 11;
 const RECORD_LENGTH: usize = 89;
 
 pub const SHEET_LENGTH: usize = RECORDS + RECORD_LENGTH * 3;
+
+// T is at most 300: a list by years has a place for each of the years 0 to 300.
+pub const YEARS: usize = 301;
+
+// The options by their numbers.
+pub const MAINTAIN: u64 = 0;
+
+pub const RENOVATE: u64 = 1;
+
+pub const REPLACE: u64 = 2;
 
 // An amount with the factors of its rates: `grow` is 1,000,000 + inflation, `age` is 1,000,000 + ageing.
 pub struct Flow {
@@ -57,14 +67,14 @@ pub fn horizon_of(s: &[u8]) -> u64
     requires { ⌜ length (now s) ≡ sheetLength ⌝ }
     ensures { λ r. ⌜ r ≡ sheetOf (now (s .entry)) .horizon ⌝ }
 {
-    fields::u16_at(s, 5)
+    numbers::u16_at(s, 5)
 }
 
 pub fn discount_of(s: &[u8]) -> u64
     requires { ⌜ length (now s) ≡ sheetLength ⌝ }
     ensures { λ r. ⌜ r ≡ 1_000_000 + sheetOf (now (s .entry)) .rate ⌝ }
 {
-    1_000_000 + fields::u32_at(s, 7)
+    1_000_000 + numbers::u32_at(s, 7)
 }
 
 pub fn terms_of(s: &[u8], k: usize) -> Terms
@@ -78,14 +88,14 @@ pub fn age_of(s: &[u8], k: usize, j: usize) -> u64
     requires { ⌜ (length (now s) ≡ sheetLength) × (k < 3) × (j < 8) ⌝ }
     ensures { λ r. ⌜ r ≡ sheetOf (now (s .entry)) .option k .overhaul j .age ⌝ }
 {
-    fields::u16_at(s, RECORDS + RECORD_LENGTH * k + (41 + 6 * j))
+    numbers::u16_at(s, RECORDS + RECORD_LENGTH * k + (41 + 6 * j))
 }
 
 pub fn amount_of(s: &[u8], k: usize, j: usize) -> u64
     requires { ⌜ (length (now s) ≡ sheetLength) × (k < 3) × (j < 8) ⌝ }
     ensures { λ r. ⌜ r ≡ sheetOf (now (s .entry)) .option k .overhaul j .amount ⌝ }
 {
-    fields::u32_at(s, RECORDS + RECORD_LENGTH * k + (43 + 6 * j))
+    numbers::u32_at(s, RECORDS + RECORD_LENGTH * k + (43 + 6 * j))
 }
 
 // All fields of a sheet of the right length, whatever they hold.

@@ -3,13 +3,15 @@
 ghost use mathlib.Core.Path.{_≡_};
 ghost use Prim.Native.Nat.{_+_, _≤_};
 ghost use lib.ListN.{length};
+ghost use Rattle.base.specs.Lists.{listed};
 ghost use Rattle.sheet.specs.Layout.{recordLength};
 ghost use Rattle.sheet.specs.Sheet.{expenseAt, onceAt, optionAt};
-ghost use Rattle.sheet.specs.Parsed.{listed, flowOf, overhaulsOf, termsOf};
+ghost use Rattle.sheet.specs.Parsed.{flowOf, overhaulsOf, termsOf};
 use crate::Flow;
 use crate::Overhauls;
 use crate::Terms;
 use crate::fields;
+use base::numbers;
 
 // An amount with its inflation, paid once: it has no ageing.
 fn once_at(s: &[u8], at: usize) -> Flow
@@ -17,7 +19,7 @@ fn once_at(s: &[u8], at: usize) -> Flow
     ensures { λ r. ⌜ r ≡ flowOf (onceAt (now (s .entry)) at) ⌝ }
 {
     Flow {
-        amount: fields::u32_at(s, at),
+        amount: numbers::u32_at(s, at),
         grow: fields::factor_at(s, at + 4),
         age: 1_000_000,
     }
@@ -29,9 +31,9 @@ fn flow_at(s: &[u8], at: usize) -> Flow
     ensures { λ r. ⌜ r ≡ flowOf (expenseAt (now (s .entry)) at) ⌝ }
 {
     Flow {
-        amount: fields::u32_at(s, at),
+        amount: numbers::u32_at(s, at),
         grow: fields::factor_at(s, at + 4),
-        age: 1_000_000 + fields::u32_at(s, at + 8),
+        age: 1_000_000 + numbers::u32_at(s, at + 8),
     }
 }
 
@@ -41,14 +43,14 @@ fn ages_at(s: &[u8], at: usize) -> [u64; 8]
     ensures { λ r. ⌜ r ≡ listed 8 (λ j. optionAt (now (s .entry)) at .overhaul j .age) ⌝ }
 {
     [
-        fields::u16_at(s, at + 41),
-        fields::u16_at(s, at + 47),
-        fields::u16_at(s, at + 53),
-        fields::u16_at(s, at + 59),
-        fields::u16_at(s, at + 65),
-        fields::u16_at(s, at + 71),
-        fields::u16_at(s, at + 77),
-        fields::u16_at(s, at + 83),
+        numbers::u16_at(s, at + 41),
+        numbers::u16_at(s, at + 47),
+        numbers::u16_at(s, at + 53),
+        numbers::u16_at(s, at + 59),
+        numbers::u16_at(s, at + 65),
+        numbers::u16_at(s, at + 71),
+        numbers::u16_at(s, at + 77),
+        numbers::u16_at(s, at + 83),
     ]
 }
 
@@ -57,14 +59,14 @@ fn amounts_at(s: &[u8], at: usize) -> [u64; 8]
     ensures { λ r. ⌜ r ≡ listed 8 (λ j. optionAt (now (s .entry)) at .overhaul j .amount) ⌝ }
 {
     [
-        fields::u32_at(s, at + 43),
-        fields::u32_at(s, at + 49),
-        fields::u32_at(s, at + 55),
-        fields::u32_at(s, at + 61),
-        fields::u32_at(s, at + 67),
-        fields::u32_at(s, at + 73),
-        fields::u32_at(s, at + 79),
-        fields::u32_at(s, at + 85),
+        numbers::u32_at(s, at + 43),
+        numbers::u32_at(s, at + 49),
+        numbers::u32_at(s, at + 55),
+        numbers::u32_at(s, at + 61),
+        numbers::u32_at(s, at + 67),
+        numbers::u32_at(s, at + 73),
+        numbers::u32_at(s, at + 79),
+        numbers::u32_at(s, at + 85),
     ]
 }
 
@@ -76,7 +78,7 @@ fn overhauls_at(s: &[u8], at: usize) -> Overhauls
     let amounts = amounts_at(s, at);
     Overhauls {
         grow: fields::factor_at(s, at + 36),
-        count: fields::u8_at(s, at + 40),
+        count: numbers::u8_at(s, at + 40),
         ages: ages,
         amounts: amounts,
     }
@@ -89,8 +91,8 @@ pub fn terms_at(s: &[u8], at: usize) -> Terms
 {
     let overhauls = overhauls_at(s, at);
     Terms {
-        shortest: fields::u16_at(s, at),
-        longest: fields::u16_at(s, at + 2),
+        shortest: numbers::u16_at(s, at),
+        longest: numbers::u16_at(s, at + 2),
         investment: once_at(s, at + 4),
         maintenance: flow_at(s, at + 12),
         electricity: flow_at(s, at + 24),

@@ -9,20 +9,20 @@ use native.Mathlib.Nat.{eq-or-lt-of-le, not-suc-le-zero}
 use lib.Dec.{ltb}
 use lib.ListN.{getD}
 use borrow.Author.Tests.{eq-eqb, ne-eqb, ltb-true, ltb-false}
-use Rattle.checking.proofs.TestLaws.{by-test}
-use Rattle.costing.specs.Lists.{total}
-use Rattle.costing.specs.Payment.{Payment, rounded}
-use Rattle.costing.specs.Arc.{once, ageOf, overhaul, forEach, worth}
+use Rattle.base.specs.Lists.{sumOf}
+use Rattle.base.proofs.TestLaws.{by-test}
+use Rattle.steps.specs.Payment.{Payment, rounded, once}
+use Rattle.costing.specs.Arc.{ageOf, overhaul, forEach, worth}
 use Rattle.costing.specs.Fit.{KeptFits}
 use Rattle.costing.specs.Walk.{overhaulsAt}
 use Rattle.costing.specs.declared.Kept.{Kept}
-use Rattle.costing.proofs.SumLaws.{forEach-suc, forEach-none, when-true, when-false}
+use Rattle.costing.proofs.SumLaws.{forEach-suc, forEach-none, paidIf-true, paidIf-false}
 use Rattle.streams.specs.Streams.{Falls}
 
 -- the sum over a list of parts, of which one counts
 forEach-one :
-    (φ : Payment → ℕ) (n i : ℕ) (f : ℕ → List Payment) → i < n → ((j : ℕ) → j < n → (j ≡ i → ⊥) → total φ (f j) ≡ 0)
-    → total φ (forEach n f) ≡ total φ (f i)
+    (φ : Payment → ℕ) (n i : ℕ) (f : ℕ → List Payment) → i < n → ((j : ℕ) → j < n → (j ≡ i → ⊥) → sumOf φ (f j) ≡ 0)
+    → sumOf φ (forEach n f) ≡ sumOf φ (f i)
 forEach-one φ zero i f l others = absurd (not-suc-le-zero l)
 forEach-one φ (suc n) i f l others =
     ⊎-elim
@@ -38,7 +38,7 @@ module _ (a : Kept) (h : KeptFits a) (n : ℕ) where
   overhauls-none never =
       sym
       (forEach-none (rounded (a .discount)) (a .terms .overhauls .count) _
-      (λ j l. rw (ne-eqb (ageOf a j) n (never j l)) (when-false (rounded (a .discount)) (overhaul a j))))
+      (λ j l. rw (ne-eqb (ageOf a j) n (never j l)) (paidIf-false (rounded (a .discount)) (overhaul a j))))
 
   other-age : (i j : ℕ) → i < a .terms .overhauls .count → j < a .terms .overhauls .count → (j ≡ i → ⊥) → ageOf a i ≡ n → ageOf a j ≡ n → ⊥
   unfolding ageOf
@@ -59,8 +59,8 @@ module _ (a : Kept) (h : KeptFits a) (n : ℕ) where
       ∙ sym
       (forEach-one (rounded (a .discount)) (a .terms .overhauls .count) i _ l
       (λ j m differ.
-      rw (ne-eqb (ageOf a j) n (other-age i j l m differ e)) (when-false (rounded (a .discount)) (overhaul a j)))
-      ∙ rw (eq-eqb (ageOf a i) n e, when-true (rounded (a .discount)), e))
+      rw (ne-eqb (ageOf a j) n (other-age i j l m differ e)) (paidIf-false (rounded (a .discount)) (overhaul a j)))
+      ∙ rw (eq-eqb (ageOf a i) n e, paidIf-true (rounded (a .discount)), e))
 
 pub falls-zero : (a : Kept) → Falls a 0 0
 falls-zero a = record { within = omega arith; behind = λ j l. absurd (not-suc-le-zero l); ahead = λ j l m. omega arith }

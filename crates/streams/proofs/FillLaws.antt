@@ -1,5 +1,5 @@
--- Streams as they are filled: the value of the next year is a plain step on (`once-zero`, `once-suc`), which fits (`once-fits`); one value
--- written more (`stream-next`, `left-next`), one stream more (`streams-next`), and streams that lie before what is written stay
+-- Streams as they are filled: the value of the next year is a plain step on (`once-zero`, `once-suc`), which fits (`once-fits`); the places
+-- before the one that is written are left (`left-next`), one stream more (`streams-next`), and streams that lie before what is written stay
 -- (`stream-stays`, `left-through`). Assumes nothing.
 use Prim.Native.Nat.{ℕ, _+_, _*_, _≤_, _<_}
 use mathlib.Core.Path.{_≡_, refl, sym, subst, _∙_}
@@ -8,14 +8,13 @@ use mathlib.Core.Logic.{⊎-elim}
 use native.Mathlib.Omega.{arith}
 use native.Mathlib.Nat.{eq-or-lt-of-le}
 use native.Mathlib.Numerals.{add-one}
-use lib.ListN.{getD, set, length}
-use lib.Seq.{getD-set-same, getD-set-other}
+use lib.ListN.{getD, set}
+use lib.Seq.{getD-set-other}
 use Rattle.sheet.specs.declared.Overhauls.{Overhauls}
-use Rattle.costing.specs.Step.{plain, repeated}
-use Rattle.costing.specs.Payment.{rounded}
-use Rattle.costing.specs.Arc.{once}
-use Rattle.costing.specs.Fit.{PlainFits}
-use Rattle.costing.proofs.RoomLaws.{plains-fit}
+use Rattle.steps.specs.Step.{plain, repeated}
+use Rattle.steps.specs.Payment.{rounded, once}
+use Rattle.steps.specs.Fit.{PlainFits}
+use Rattle.steps.proofs.RoomLaws.{plains-fit}
 use Rattle.streams.specs.Streams.{Stream, Left, part, OverhaulStreams}
 
 module _ (discount amount grow : ℕ) where
@@ -34,18 +33,7 @@ module _ (discount amount grow : ℕ) where
   unfolding rounded once repeated
   once-fits y now h = rw now (plains-fit grow discount y (amount * 10_000) h)
 
--- one value written more
-pub stream-next :
-    (s : List ℕ) (at y : ℕ) (f : ℕ → ℕ) {v : ℕ} → ((k : ℕ) → k < y → getD s (at + k) 0 ≡ f k) → v ≡ f y → at + y < length s
-    → (k : ℕ) → k < y + 1 → getD (set s (at + y) v) (at + k) 0 ≡ f k
-stream-next s at y f {v} old e fits k h =
-    ⊎-elim
-    (λ (q : k ≡ y).
-    subst (λ (k : ℕ). getD (set s (at + y) v) (at + k) 0 ≡ f k) (sym q) (getD-set-same s (at + y) v 0 fits ∙ e))
-    (λ (l : k < y). getD-set-other s (at + y) (at + k) v 0 (λ q. omega arith) ∙ old k l)
-    (eq-or-lt-of-le (omega arith))
-
--- a place before it is left
+-- a place before the one that is written is left
 pub left-next : (s old : List ℕ) (at y v : ℕ) → Left at old s → Left at old (set s (at + y) v)
 left-next s old at y v h k l = getD-set-other s (at + y) k v 0 (λ q. omega arith) ∙ h k l
 

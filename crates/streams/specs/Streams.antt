@@ -4,10 +4,13 @@ use Prim.Native.Nat.{ℕ, _+_, _*_, _≤_, _<_}
 use mathlib.Core.Path.{_≡_}
 use mathlib.Core.List.{List}
 use lib.ListN.{getD, length}
+use Rattle.sheet.specs.Layout.{yearPlaces}
+use Rattle.sheet.specs.Parsed.{noTerms}
 use Rattle.sheet.specs.declared.Overhauls.{Overhauls}
+use Rattle.sheet.specs.declared.Sheet.{Sheet}
 use Rattle.sheet.specs.declared.Terms.{Terms}
-use Rattle.costing.specs.Payment.{rounded}
-use Rattle.costing.specs.Arc.{once, ageOf}
+use Rattle.steps.specs.Payment.{rounded, once}
+use Rattle.costing.specs.Arc.{ageOf}
 use Rattle.costing.specs.declared.Kept.{Kept}
 
 -- from place `at` on, the value of an amount paid once in year 0, 1, .., last
@@ -25,7 +28,11 @@ pub record Filled (at discount amount grow last : ℕ) (old new : List ℕ) : Ty
 
 -- where a part begins
 abbrev pub part : ℕ → ℕ
-part k = k * 301
+part k = k * yearPlaces
+
+-- eleven parts
+abbrev pub streamPlaces : ℕ
+streamPlaces = part 11
 
 -- the streams of the first n overhauls
 abbrev pub OverhaulStreams : (discount : ℕ) → Overhauls → (n last : ℕ) → List ℕ → Type 0
@@ -38,7 +45,7 @@ pub record OverhaulsFilled (discount : ℕ) (o : Overhauls) (last : ℕ) (old ne
 
 -- all streams of an option
 pub record Streams (discount : ℕ) (t : Terms) (last : ℕ) (s : List ℕ) : Type 0 where
-  pub room : 3311 ≤ length s
+  pub room : streamPlaces ≤ length s
   pub investment : Stream (part 0) discount (t .investment .amount) (t .investment .grow) last s
   pub maintenance : Stream (part 1) discount (t .maintenance .amount) (t .maintenance .grow) last s
   pub electricity : Stream (part 2) discount (t .electricity .amount) (t .electricity .grow) last s
@@ -49,3 +56,9 @@ pub record Falls (a : Kept) (n next : ℕ) : Type 0 where
   pub within : next ≤ a .terms .overhauls .count
   pub behind : (j : ℕ) → j < next → ageOf a j < n
   pub ahead : (j : ℕ) → next ≤ j → j < a .terms .overhauls .count → n ≤ ageOf a j
+
+-- what is lent with a sheet for one of its options: that option's streams, and the ages of its overhauls
+abbrev pub Lent : Sheet → (option : ℕ) (streams ages : List ℕ) → Type 0
+Lent s option streams ages =
+    let t = getD (s .options) option noTerms in
+    Streams (s .discount) t (s .horizon) streams × (ages ≡ t .overhauls .ages)

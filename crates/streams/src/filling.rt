@@ -2,18 +2,18 @@
 
 ghost use Prim.Native.Nat.{_+_, _*_, _<_, _≤_};
 ghost use lib.ListN.{length};
-ghost use Rattle.division.specs.Division.{Ready};
 ghost use Rattle.checking.specs.Fit.{OverhaulsFit};
-ghost use Rattle.costing.specs.Fit.{PlainFits};
-ghost use Rattle.streams.specs.Streams.{Filled, OverhaulsFilled};
-use crate::YEARS;
-use costing::Units;
+ghost use Rattle.division.specs.Division.{DivisorReady};
+ghost use Rattle.steps.specs.Fit.{PlainFits};
+ghost use Rattle.streams.specs.Streams.{Filled, streamPlaces, OverhaulsFilled};
 use division::Divisor;
 use sheet::Overhauls;
+use sheet::YEARS;
+use steps::Units;
 
 // Writes the value of an amount in the years 0 to last, from a place on: each year is a plain step from the one before.
 pub fn stream(streams: &mut [u64], at: usize, amount: u64, grow: u64, discount: Divisor, last: u64)
-    requires { ⌜ PlainFits grow (discount .by) (amount * 10_000) × Ready discount ⌝ }
+    requires { ⌜ PlainFits grow (discount .by) (amount * 10_000) × DivisorReady discount ⌝ }
     requires { ⌜ (last ≤ 300) × (at + last < length (now streams)) ⌝ }
     ensures { λ _. ⌜ Filled at (discount .by) amount grow last (now (streams .entry)) (now (streams .exit)) ⌝ }
 {
@@ -28,9 +28,9 @@ pub fn stream(streams: &mut [u64], at: usize, amount: u64, grow: u64, discount: 
 
 // Writes the streams of the overhauls.
 pub fn overhauls(streams: &mut [u64], overhauls: Overhauls, discount: Divisor, last: u64)
-    requires { ⌜ Ready discount × (1_000_000 ≤ discount .by) × (discount .by ≤ 1_200_000) ⌝ }
+    requires { ⌜ DivisorReady discount × (1_000_000 ≤ discount .by) × (discount .by ≤ 1_200_000) ⌝ }
     requires { ⌜ OverhaulsFit (discount .by) overhauls ⌝ }
-    requires { ⌜ (last ≤ 300) × (3311 ≤ length (now streams)) ⌝ }
+    requires { ⌜ (last ≤ 300) × (streamPlaces ≤ length (now streams)) ⌝ }
     ensures { λ _. ⌜ OverhaulsFilled (discount .by) overhauls last (now (streams .entry)) (now (streams .exit)) ⌝ }
 {
     let amounts = overhauls.amounts;

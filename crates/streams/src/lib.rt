@@ -4,23 +4,23 @@
 ghost use mathlib.Core.Path.{_≡_};
 ghost use Prim.Native.Nat.{_+_, _<_, _≤_};
 ghost use lib.ListN.{length};
-ghost use Rattle.division.specs.Division.{Ready};
 ghost use Rattle.checking.specs.Fit.{TermsFit};
+ghost use Rattle.division.specs.Division.{DivisorReady};
 ghost use Rattle.costing.specs.Arc.{worth};
 ghost use Rattle.costing.specs.Fit.{KeptFits};
 ghost use Rattle.costing.specs.Walk.{overhaulsAt, walkAt};
-ghost use Rattle.streams.specs.Streams.{Streams, Falls};
+ghost use Rattle.streams.specs.Streams.{streamPlaces, Streams, Falls};
 use costing::Kept;
-use costing::Units;
 use costing::Walk;
 use division::Divisor;
 use sheet::Terms;
+use sheet::YEARS;
+use steps::Units;
 
 mod filling;
+pub mod lending;
 
-// One stream has the years 0 to 300; an option has eleven: investment, maintenance, electricity and eight overhauls.
-pub const YEARS: usize = 301;
-
+// An option has eleven streams: investment, maintenance, electricity and eight overhauls.
 pub const PLACES: usize = 11 * YEARS;
 
 // What the overhauls of a year cost, and which overhaul falls next.
@@ -31,9 +31,9 @@ pub struct Fallen {
 
 // Writes all streams of an option, for the years 0 to last.
 pub fn fill(streams: &mut [u64], terms: Terms, discount: Divisor, last: u64)
-    requires { ⌜ Ready discount × (1_000_000 ≤ discount .by) × (discount .by ≤ 1_200_000) ⌝ }
+    requires { ⌜ DivisorReady discount × (1_000_000 ≤ discount .by) × (discount .by ≤ 1_200_000) ⌝ }
     requires { ⌜ TermsFit (discount .by) terms ⌝ }
-    requires { ⌜ (last ≤ 300) × (3311 ≤ length (now streams)) ⌝ }
+    requires { ⌜ (last ≤ 300) × (streamPlaces ≤ length (now streams)) ⌝ }
     ensures { λ _. ⌜ Streams (discount .by) terms last (now (streams .exit)) ⌝ }
 {
     let i = terms.investment;

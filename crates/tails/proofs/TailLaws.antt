@@ -8,27 +8,27 @@ use mathlib.Core.List.{List, [], _∷_}
 use mathlib.Core.Bool.{true}
 use mathlib.Core.Logic.{_↔_, inr}
 use native.Mathlib.Omega.{arith}
-use Rattle.sheet.specs.Sheet.{PlanningSheet}
+use Rattle.base.specs.Lists.{sumOf, firstOf}
+use Rattle.sheet.specs.Sheet.{PlanningSheet, replace}
 use Rattle.sheet.specs.Parsed.{parsed}
 use Rattle.sheet.proofs.ParsedLaws.{horizon-read}
 use Rattle.checking.specs.Fit.{Fit}
-use Rattle.costing.specs.Lists.{total}
-use Rattle.costing.specs.Fit.{yearly}
+use Rattle.costing.specs.Arc.{costTo}
 use Rattle.costing.specs.Offered.{offered}
-use Rattle.costing.proofs.OfferedLaws.{offered-iff}
+use Rattle.costing.specs.Fit.{yearly}
 use Rattle.costing.proofs.SheetArcLaws.{cost-le}
-use Rattle.chain.specs.Chain.{replace, replacements, last, Reaches, arcsOf}
-use Rattle.chain.proofs.FeasibleLaws.{replace-forward}
+use Rattle.costing.proofs.OfferedLaws.{offered-iff}
 use Rattle.choice.specs.Choice.{NotWorse}
-use Rattle.choice.specs.Running.{Entry, noTotal, noEntry, Holds, some, Then, thenWeight}
+use Rattle.choice.specs.Running.{Entry, noTotal, noEntry, entries, Holds, Then, thenWeight, some}
 use Rattle.choice.specs.Table.{nothingLeft}
 use Rattle.choice.proofs.HoldsLaws.{holds-none, holds-noEntry, holds-chosen, holds-least, holds-same}
 use Rattle.choice.proofs.RunningLaws.{over-same}
 use Rattle.choice.proofs.LeastLaws.{over-holds}
 use Rattle.choice.proofs.TableLaws.{entry-last, entry-step, every-year}
-use Rattle.tails.specs.Tail.{costTo, bestEnd, tail}
-use Rattle.tails.specs.Words.{firstOf}
-use Rattle.tails.specs.Cheapest.{replaced, Cheapest}
+use Rattle.chain.specs.Chain.{replacements, last, Reaches, arcsOf, replaced}
+use Rattle.chain.proofs.FeasibleLaws.{replace-forward}
+use Rattle.tails.specs.Tail.{bestEnd, tailFrom}
+use Rattle.tails.specs.Cheapest.{Cheapest}
 
 module _ (p : PlanningSheet) where
   -- an offered replacement ends after the year in which it starts, and not after T
@@ -41,15 +41,15 @@ module _ (p : PlanningSheet) where
       → bestEnd p replace g y ≡ bestEnd p replace g′ y
   unfolding bestEnd
   later-only g g′ y h same =
-      over-same (offered p replace y) (offered p replace y) (costTo p replace y) (costTo p replace y) g g′ y noEntry (suc (p .horizon - y))
+      over-same entries (offered p replace y) (offered p replace y) (costTo p replace y) (costTo p replace y) g g′ y noEntry (suc (p .horizon - y))
       (λ e l u. refl) (λ e l u on. refl) (λ e l u on. let o = offered-later y e on in same e (o .0) (o .1))
 
-  pub tail-last : tail p (p .horizon) ≡ nothingLeft
-  unfolding tail
+  pub tail-last : tailFrom p (p .horizon) ≡ nothingLeft
+  unfolding tailFrom
   tail-last = entry-last (p .horizon) (bestEnd p replace)
 
-  pub tail-step : (y : ℕ) → y < p .horizon → tail p y ≡ bestEnd p replace (tail p) y
-  unfolding tail
+  pub tail-step : (y : ℕ) → y < p .horizon → tailFrom p y ≡ bestEnd p replace (tailFrom p) y
+  unfolding tailFrom
   tail-step = entry-step (p .horizon) (bestEnd p replace) later-only
 
   -- from a year before T, the lists that reach T begin with an offered end and reach T from there
@@ -64,7 +64,7 @@ module _ (p : PlanningSheet) where
 
   replaced-then :
       (y : ℕ) (ks : List ℕ) → Then (offered p replace y) (Reaches p) ks → thenWeight (costTo p replace y) (replaced p) ks ≡ replaced p y ks
-  unfolding total arcsOf replacements
+  unfolding sumOf arcsOf replacements
   replaced-then y [] m = refl
   replaced-then y (k ∷ ks) m = refl
 
@@ -77,7 +77,7 @@ module _ (p : PlanningSheet) where
 
   -- from T only the empty list reaches T
   holds-last : HoldsAt (p .horizon) nothingLeft
-  unfolding total arcsOf replacements last
+  unfolding sumOf arcsOf replacements last
   holds-last = some (record { member = record { offered = tt; arrived = refl }; least = least }) refl (omega arith)
     where
       least : (ks : List ℕ) → Reaches p (p .horizon) ks → NotWorse (replaced p (p .horizon)) [] ks
@@ -105,25 +105,25 @@ module _ (p : PlanningSheet) where
             omega (arith, o .forward, o .inside)
 
     holds-step :
-        (y : ℕ) → y < p .horizon → ((e : ℕ) → y < e → e ≤ p .horizon → HoldsAt e (tail p e)) → HoldsAt y (bestEnd p replace (tail p) y)
+        (y : ℕ) → y < p .horizon → ((e : ℕ) → y < e → e ≤ p .horizon → HoldsAt e (tailFrom p e)) → HoldsAt y (bestEnd p replace (tailFrom p) y)
     holds-step y h later =
         holds-same (Then (offered p replace y) (Reaches p)) (Reaches p y) (thenWeight (costTo p replace y) (replaced p)) (replaced p y)
         (reaches-then y h) (replaced-then y) (room y) _
-        (best-holds replace y (tail p) (Reaches p) (replaced p) (λ e on. let o = offered-later y e on in later e (o .0) (o .1)))
+        (best-holds replace y (tailFrom p) (Reaches p) (replaced p) (λ e on. let o = offered-later y e on in later e (o .0) (o .1)))
 
-    pub tail-holds : (y : ℕ) → y ≤ p .horizon → Holds (Reaches p y) (replaced p y) ((p .horizon - y) * yearly) (tail p y)
-    unfolding tail
+    pub tail-holds : (y : ℕ) → y ≤ p .horizon → Holds (Reaches p y) (replaced p y) ((p .horizon - y) * yearly) (tailFrom p y)
+    unfolding tailFrom
     tail-holds = every-year (p .horizon) (bestEnd p replace) later-only HoldsAt holds-last holds-step
 
-    pub tail-le : (y : ℕ) → y ≤ p .horizon → (tail p y .total ≡ noTotal → ⊥) → tail p y .total ≤ (p .horizon - y) * yearly
+    pub tail-le : (y : ℕ) → y ≤ p .horizon → (tailFrom p y .total ≡ noTotal → ⊥) → tailFrom p y .total ≤ (p .horizon - y) * yearly
     tail-le y l there = holds-chosen _ _ _ _ (tail-holds y l) there .2
 
-    pub tail-cheapest : (y : ℕ) → y ≤ p .horizon → Cheapest p y (tail p y .total) (firstOf (tail p y .ends))
+    pub tail-cheapest : (y : ℕ) → y ≤ p .horizon → Cheapest p y (tailFrom p y .total) (firstOf (tailFrom p y .ends))
     tail-cheapest y l =
         let holds = tail-holds y l in
         record {
           none = holds-none _ _ _ _ holds (room-lt y);
           noEnd = λ q. ap (λ (t : Entry). firstOf (t .ends)) (holds-noEntry _ _ _ _ holds (room-lt y) q);
-          chosen = λ there. let c = holds-chosen _ _ _ _ holds there in (tail p y .ends, (c .0, c .1, refl));
+          chosen = λ there. let c = holds-chosen _ _ _ _ holds there in (tailFrom p y .ends, (c .0, c .1, refl));
           least = holds-least _ _ _ _ holds (room-lt y);
         }

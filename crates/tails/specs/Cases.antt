@@ -1,22 +1,15 @@
 -- The words of document 01's sheets 9 to 12, and of the sheet of its cases 6 to 8, worked out by hand from the rules. Definitions only.
 use Prim.Native.Nat.{ℕ}
 use mathlib.Core.List.{List, [], _∷_, map}
+use Rattle.base.specs.Cases.{Case}
 use Rattle.sheet.specs.Sheet.{sheetOf}
-use Rattle.costing.specs.Cases.{Case, noOverhaul, replaceSheet, arcSheet}
-use Rattle.chain.specs.Cases.{sheet11, sheet12}
+use Rattle.costing.specs.CaseSheets.{noOverhaul, arcSheet, sheet9, sheet10, sheet11, sheet12}
 use Rattle.choice.specs.Running.{noTotal}
 use Rattle.tails.specs.Words.{totalOf, firstEnd, tails}
 
--- only replace offered, r 0, lives 3 to 4, nothing to pay: case 9 has T = 5, case 10 T = 7
-abbrev pub sheet9 : List ℕ
-sheet9 = replaceSheet 5 0 3 4 0 0 noOverhaul
-
-abbrev pub sheet10 : List ℕ
-sheet10 = replaceSheet 7 0 3 4 0 0 noOverhaul
-
 -- words 0 to T, and words 301 to 301 + T
-abbrev pub words : (sheet totals ends : List ℕ) → Case
-words sheet totals ends =
+abbrev pub wordsOfSheet : (sheet totals ends : List ℕ) → Case
+wordsOfSheet sheet totals ends =
     record {
       Figure = List ℕ × List ℕ;
       given = let ts = tails (sheetOf sheet) in (map totalOf ts, map firstEnd ts);
@@ -26,11 +19,11 @@ words sheet totals ends =
 abbrev pub casesOfTails : List Case
 casesOfTails =
     -- replacements lead to 5 only from 1, 2 and 5 itself
-    words sheet9 (noTotal ∷ 0 ∷ 0 ∷ noTotal ∷ noTotal ∷ 0 ∷ []) (0 ∷ 5 ∷ 5 ∷ 0 ∷ 0 ∷ 0 ∷ [])
+    wordsOfSheet sheet9 (noTotal ∷ 0 ∷ 0 ∷ noTotal ∷ noTotal ∷ 0 ∷ []) (0 ∷ 5 ∷ 5 ∷ 0 ∷ 0 ∷ 0 ∷ [])
     -- from 0, ends 3, 7 and 4, 7 have the same total: the later first end is taken
-    ∷ words sheet10 (0 ∷ 0 ∷ noTotal ∷ 0 ∷ 0 ∷ noTotal ∷ noTotal ∷ 0 ∷ []) (4 ∷ 4 ∷ 0 ∷ 7 ∷ 7 ∷ 0 ∷ 0 ∷ 0 ∷ [])
-    ∷ words sheet11 (30_000 ∷ 20_000 ∷ 10_000 ∷ 0 ∷ []) (2 ∷ 3 ∷ 3 ∷ 0 ∷ [])
-    ∷ words sheet12 (240_000 ∷ 230_000 ∷ 120_000 ∷ 110_000 ∷ 0 ∷ []) (2 ∷ 3 ∷ 4 ∷ 4 ∷ 0 ∷ [])
+    ∷ wordsOfSheet sheet10 (0 ∷ 0 ∷ noTotal ∷ 0 ∷ 0 ∷ noTotal ∷ noTotal ∷ 0 ∷ []) (4 ∷ 4 ∷ 0 ∷ 7 ∷ 7 ∷ 0 ∷ 0 ∷ 0 ∷ [])
+    ∷ wordsOfSheet sheet11 (30_000 ∷ 20_000 ∷ 10_000 ∷ 0 ∷ []) (2 ∷ 3 ∷ 3 ∷ 0 ∷ [])
+    ∷ wordsOfSheet sheet12 (240_000 ∷ 230_000 ∷ 120_000 ∷ 110_000 ∷ 0 ∷ []) (2 ∷ 3 ∷ 4 ∷ 4 ∷ 0 ∷ [])
     -- with r 40,000 a later start costs less: from 1 it is case 6
-    ∷ words (arcSheet noOverhaul) (46_994 ∷ 27_749 ∷ 18_134 ∷ 0 ∷ []) (2 ∷ 3 ∷ 3 ∷ 0 ∷ [])
+    ∷ wordsOfSheet (arcSheet noOverhaul) (46_994 ∷ 27_749 ∷ 18_134 ∷ 0 ∷ []) (2 ∷ 3 ∷ 3 ∷ 0 ∷ [])
     ∷ []

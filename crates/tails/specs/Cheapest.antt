@@ -4,15 +4,12 @@ use mathlib.Core.Path.{_≡_}
 use mathlib.Core.List.{List}
 use mathlib.Core.Logic.{_↔_, _⊎_}
 use lib.ListN.{length, getD}
+use Rattle.base.specs.Lists.{firstOf}
 use Rattle.sheet.specs.Sheet.{PlanningSheet}
-use Rattle.chain.specs.Chain.{replacements, spent, Reaches}
 use Rattle.choice.specs.Choice.{Chosen}
 use Rattle.choice.specs.Running.{noTotal}
-use Rattle.tails.specs.Words.{firstOf}
-
--- the rounded total of replacements from year y with these ends
-abbrev pub replaced : PlanningSheet → ℕ → List ℕ → ℕ
-replaced p y ks = spent p (replacements y ks)
+use Rattle.chain.specs.Chain.{Reaches, replaced}
+use Rattle.tails.specs.Words.{firstsStart}
 
 -- The least rounded total of replacements alone from y to T, 2^64 − 1 if and only if there are none, and the end of the first of those
 -- replacements, 0 if there are none. Where there are some, the total is attained, by the list that is chosen, and no list is cheaper.
@@ -26,6 +23,6 @@ pub record Cheapest (p : PlanningSheet) (y total end : ℕ) : Type 0 where
 
 -- The words after planning, and those before: words y and 301 + y for y from 0 to T, and the other words, which keep their content.
 pub record CheapestWords (p : PlanningSheet) (before after : List ℕ) : Type 0 where
-  pub cheapest : (y : ℕ) → y ≤ p .horizon → Cheapest p y (getD after y 0) (getD after (301 + y) 0)
-  pub others : (k : ℕ) → ((p .horizon < k) × (k < 301)) ⊎ (301 + p .horizon < k) → getD after k 0 ≡ getD before k 0
+  pub cheapest : (y : ℕ) → y ≤ p .horizon → Cheapest p y (getD after y 0) (getD after (firstsStart + y) 0)
+  pub others : (k : ℕ) → ((p .horizon < k) × (k < firstsStart)) ⊎ (firstsStart + p .horizon < k) → getD after k 0 ≡ getD before k 0
   pub lengthKept : length after ≡ length before

@@ -2,10 +2,8 @@
 --     Tail: the table, year by year from T down
 --     Words: the lent words after planning, as an equation
 --     Cheapest: what the words promise, with no word of the table
---     Best: the running choice on the numbers that the code keeps
 --     Cases: the words of document 01's sheets
 pub mod Tail
 pub mod Words
 pub mod Cheapest
-pub mod Best
 pub mod Cases

@@ -3,28 +3,28 @@
 ghost use mathlib.Core.Path.{_≡_};
 ghost use Prim.Native.Nat.{_-_, _<_, _≤_};
 ghost use lib.ListN.{length};
-ghost use Rattle.sheet.specs.Sheet.{PlanningSheet};
-ghost use Rattle.sheet.specs.Parsed.{parsed, IsParsed};
-ghost use Rattle.checking.specs.Fit.{Fit};
-ghost use Rattle.costing.specs.Fit.{KeptFits, Divides};
-ghost use Rattle.chain.specs.Chain.{replace};
+ghost use Rattle.sheet.specs.Sheet.{PlanningSheet, replace};
+ghost use Rattle.sheet.specs.Parsed.{parsed};
+ghost use Rattle.checking.specs.Fit.{SheetFits};
+ghost use Rattle.steps.specs.Fit.{Divides};
 ghost use Rattle.choice.specs.Running.{noEntry};
-ghost use Rattle.tails.specs.Words.{withYear, WordsHeld, tailWords};
-ghost use Rattle.tails.specs.Best.{shown, bestTo, CostsTo, wordOf, WordsFit, withBest, Lent};
-use crate::Best;
-use crate::REPLACE;
-use crate::arcs;
-use crate::weighing;
+ghost use Rattle.streams.specs.Streams.{Lent};
+ghost use Rattle.weighing.specs.Best.{inShort};
+ghost use Rattle.weighing.specs.Ends.{bestTo, wordOf, WordsBehind, CostsKnown};
+ghost use Rattle.tails.specs.Words.{wordsNeeded, withBest, withYear, WordsHeld, tailWords};
+use crate::FIRSTS;
+use base::order;
 use costing::Kept;
 use division::Divisor;
+use sheet::REPLACE;
 use sheet::Sheet;
+use weighing::Best;
 
 // Writes the two words of a year by what the replacements from it cost.
 fn word(words: &mut [u64], costs: &[u64], kept: Kept, horizon: u64)
-    requires { ⌜ KeptFits kept × CostsTo kept horizon (now costs) × (120 ≤ length (now costs)) ⌝ }
-    requires { ⌜ (kept .from ≤ horizon) × (horizon ≤ 300) ⌝ }
-    requires { ⌜ (602 ≤ length (now words)) × WordsFit horizon (kept .from) (now words) ⌝ }
-    ensures { λ _. ⌜ now (words .exit) ≡ withBest (kept .from) (bestTo kept horizon (wordOf (now (words .entry))) (shown noEntry)) (now (words .entry)) ⌝ }
+    requires { ⌜ CostsKnown kept horizon (now costs) × WordsBehind kept horizon (now words) ⌝ }
+    requires { ⌜ wordsNeeded ≤ length (now words) ⌝ }
+    ensures { λ _. ⌜ now (words .exit) ≡ withBest (kept .from) (bestTo kept horizon (wordOf (now (words .entry))) (inShort noEntry)) (now (words .entry)) ⌝ }
 {
     let none = Best {
         total: weighing::NONE,
@@ -33,7 +33,7 @@ fn word(words: &mut [u64], costs: &[u64], kept: Kept, horizon: u64)
     let chosen = weighing::best_of(words, costs, kept, horizon, none);
     let year = kept.from as usize;
     words[year] = chosen.total;
-    words[301 + year] = chosen.end;
+    words[FIRSTS + year] = chosen.end;
 }
 
 // Writes the words of the two years before a year whose words, and those of later years, are written, and answers the earlier of the two.
@@ -46,30 +46,22 @@ fn two_years(
     discount: Divisor,
     reached: u64,
 ) -> u64
-    requires { ⌜ Fit sheet × IsParsed sheet × Divides discount (sheet .discount) ⌝ }
-    requires { ⌜ Lent sheet replace (now streams) (now ages) × (602 ≤ length (now words)) ⌝ }
+    requires { ⌜ SheetFits sheet × Divides discount (sheet .discount) ⌝ }
+    requires { ⌜ Lent sheet replace (now streams) (now ages) × (wordsNeeded ≤ length (now words)) ⌝ }
     requires { ⌜ (0 < reached) × (reached ≤ sheet .horizon) × ((p : PlanningSheet) → sheet ≡ parsed p → WordsHeld p reached (now words)) ⌝ }
     ensures reached { λ r. ⌜ r ≡ reached - 1 - 1 ⌝ }
     ensures words { λ _. ⌜ ((p : PlanningSheet) → sheet ≡ parsed p → now (words .exit) ≡ withYear p (reached - 1 - 1) (withYear p (reached - 1) (now (words .entry)))) ⌝ }
 {
     let horizon = sheet.horizon;
-    let terms = sheet.options[REPLACE];
     let start = reached - 1;
-    let from = weighing::before(start);
-    let kept = Kept {
-        terms: terms,
-        discount: sheet.discount,
-        from: from,
-    };
-    let next = Kept {
-        terms: terms,
-        discount: sheet.discount,
-        from: start,
-    };
-    let years = weighing::least(terms.longest, horizon - from);
+    let from = order::one_less(start);
+    let kept = costing::kept_of(sheet, REPLACE, from);
+    let next = kept.starting(start);
+    let terms = kept.terms;
+    let years = order::smaller(terms.longest, horizon - from);
     let mut earlier = [0u64; 120];
     let mut later = [0u64; 120];
-    arcs::two_starts(
+    weighing::arcs::two_starts(
         &mut earlier,
         &mut later,
         streams,
@@ -87,13 +79,13 @@ fn two_years(
 
 // Writes word y and word 301 + y for y from T down to 0.
 pub fn fill(words: &mut [u64], streams: &[u64], ages: &[u64; 8], sheet: Sheet, discount: Divisor)
-    requires { ⌜ Fit sheet × IsParsed sheet × Divides discount (sheet .discount) ⌝ }
-    requires { ⌜ Lent sheet replace (now streams) (now ages) × (602 ≤ length (now words)) ⌝ }
+    requires { ⌜ SheetFits sheet × Divides discount (sheet .discount) ⌝ }
+    requires { ⌜ Lent sheet replace (now streams) (now ages) × (wordsNeeded ≤ length (now words)) ⌝ }
     ensures { λ _. ⌜ ((p : PlanningSheet) → sheet ≡ parsed p → now (words .exit) ≡ tailWords p (now (words .entry))) ⌝ }
 {
     let horizon = sheet.horizon;
     words[horizon as usize] = 0;
-    words[301 + horizon as usize] = 0;
+    words[FIRSTS + horizon as usize] = 0;
     let mut y = horizon;
     while 0 < y {
         y = two_years(words, streams, ages, sheet, discount, y);

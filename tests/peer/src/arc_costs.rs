@@ -1,8 +1,8 @@
 //! What the arcs of an option cost, each made from the one that is a year shorter, so that all
-//! arcs of a horizon of 300 years are costed in little time.
+//! arcs of a horizon of 300 years are costed in little time. The yearly payments are carried from
+//! year to year, in u64.
 
-use crate::cost_fast::{factor, plain, Running};
-use crate::sheet::{Record, Sheet};
+use crate::sheet::{Flow, Record, Sheet};
 
 /// The amounts of an option's payments after 0 plain steps, 1, and so on up to the horizon.
 pub struct ArcCosts<'a> {
@@ -75,6 +75,47 @@ fn plain_steps(amount: i64, inflation: i64, discount: u64, steps: usize) -> Vec<
     std::iter::successors(Some(first), next)
         .take(steps + 1)
         .collect()
+}
+
+/// A yearly payment in service: its amount of the year it has reached, and its factors.
+struct Running {
+    amount: u64,
+    ageing: u64,
+    growth: u64,
+    discount: u64,
+}
+
+impl Running {
+    fn new(amount: u64, flow: &Flow, discount: u64) -> Running {
+        Running {
+            amount,
+            ageing: factor(flow.ageing),
+            growth: factor(flow.inflation),
+            discount,
+        }
+    }
+
+    fn next_year(&mut self) -> u64 {
+        let aged = nearest(self.amount * self.ageing, 1_000_000);
+        self.amount = plain(aged, self.growth, self.discount);
+        self.amount
+    }
+}
+
+/// An amount after one plain step.
+fn plain(amount: u64, growth: u64, discount: u64) -> u64 {
+    nearest(amount * growth, discount)
+}
+
+fn factor(rate: i64) -> u64 {
+    (1_000_000 + rate) as u64
+}
+
+/// A running amount is about 10^13 at most. Aged, it is multiplied by at most 1,300,000; ageing
+/// and growth together multiply it by at most 1,200,000, by check 8. So no dividend reaches
+/// 2^64. An odd divisor leaves no half, so half of it may be rounded down.
+fn nearest(dividend: u64, divisor: u64) -> u64 {
+    (dividend + divisor / 2) / divisor
 }
 
 #[cfg(test)]

@@ -1,13 +1,12 @@
 //! Compares nimovalsa_check, nimovalsa_cost, nimovalsa_price and nimovalsa_plan of
 //! libnimovalsa.a with independent implementations of them on many sheets, arcs, plans and
-//! buffers, or times costing and pricing.
-//!
-//! Use: peer [SEED [COUNT]], or peer time. Equal arguments give equal sheets, arcs, plans and
 //! buffers.
+//!
+//! Use: peer [SEED [COUNT]]. Equal arguments give equal sheets, arcs, plans and buffers.
 //! COUNT is the number of sheets that are checked. They start as valid ones and then get values
 //! at, just below and just above the limits of the rules.
 //! Status: 0 if all answers agree and each possible answer was seen often enough, 1 if not,
-//! 2 for wrong arguments. With time: 0 if the answers agree, however long they take.
+//! 2 for wrong arguments.
 #![deny(unsafe_code)]
 
 mod answer;
@@ -21,7 +20,6 @@ mod compare_costs;
 mod compare_plans;
 mod compare_prices;
 mod cost;
-mod cost_fast;
 mod damaged;
 mod edits;
 mod lent;
@@ -32,12 +30,10 @@ mod plan;
 mod planner;
 mod plans;
 mod price;
-mod price_fast;
 mod random;
 mod report;
 mod sheet;
 mod sheets;
-mod timing;
 mod valid;
 
 use compare::compare_all;
@@ -46,34 +42,24 @@ use compare_plans::compare_plans;
 use compare_prices::compare_prices;
 use std::env;
 use std::process::ExitCode;
-use timing::times;
 
 const DEFAULT_SEED: u64 = 1;
 const DEFAULT_COUNT: u64 = 240_000;
 const LEAST_COUNT: u64 = 200_000;
-
-enum Task {
-    Compare { seed: u64, count: u64 },
-    Time,
-}
 
 fn number(word: &str, name: &str) -> Result<u64, String> {
     word.parse()
         .map_err(|_| format!("{name} is not a whole number: {word}"))
 }
 
-fn task() -> Result<Task, String> {
+/// The seed and the count.
+fn arguments() -> Result<(u64, u64), String> {
     let words: Vec<String> = env::args_os()
         .skip(1)
         .map(|word| word.to_string_lossy().into())
         .collect();
-    let timed = words.first().is_some_and(|word| word == "time");
-    let most = if timed { 1 } else { 2 };
-    if words.len() > most {
-        return Err("use: peer [SEED [COUNT]], or peer time".into());
-    }
-    if timed {
-        return Ok(Task::Time);
+    if words.len() > 2 {
+        return Err("use: peer [SEED [COUNT]]".into());
     }
     let seed = words
         .first()
@@ -84,29 +70,20 @@ fn task() -> Result<Task, String> {
     if count < LEAST_COUNT {
         return Err(format!("count is below {LEAST_COUNT}: {count}"));
     }
-    Ok(Task::Compare { seed, count })
+    Ok((seed, count))
 }
 
 /// Prints a line as soon as it is known.
-fn perform(task: Task) -> Result<(), String> {
-    match task {
-        Task::Compare { seed, count } => {
-            println!("rust peer: {}", compare_all(seed, count)?);
-            println!("rust peer: {}", compare_costs(seed)?);
-            println!("rust peer: {}", compare_prices(seed)?);
-            println!("rust peer: {}", compare_plans(seed)?);
-        }
-        Task::Time => {
-            for line in times()? {
-                println!("rust peer: {line}");
-            }
-        }
-    }
+fn perform(seed: u64, count: u64) -> Result<(), String> {
+    println!("rust peer: {}", compare_all(seed, count)?);
+    println!("rust peer: {}", compare_costs(seed)?);
+    println!("rust peer: {}", compare_prices(seed)?);
+    println!("rust peer: {}", compare_plans(seed)?);
     Ok(())
 }
 
 fn main() -> ExitCode {
-    let (status, line) = match task().map(perform) {
+    let (status, line) = match arguments().map(|(seed, count)| perform(seed, count)) {
         Ok(Ok(())) => return ExitCode::SUCCESS,
         Ok(Err(line)) => (1, line),
         Err(line) => (2, line),

@@ -81,7 +81,7 @@ pub fn frequent_sheet(random: &mut Random) -> Vec<u8> {
 }
 
 /// Every rate of an option.
-pub const RATES: [Field; 6] = [
+const RATES: [Field; 6] = [
     INVESTMENT_INFLATION,
     MAINTENANCE_INFLATION,
     MAINTENANCE_AGEING,

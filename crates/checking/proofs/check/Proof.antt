@@ -6,16 +6,16 @@ use native.Mathlib.Omega.{arith}
 use lib.ListN.{length}
 use borrow.Author.Needs.{needs}
 use borrow.Author.Tests.{not-true, not-false}
+use Rattle.base.specs.Answer.{accepted, firstBelow}
+use Rattle.base.proofs.AnswerLaws.{first-zero}
 use Rattle.sheet.specs.Layout.{sheetLength}
 use Rattle.sheet.specs.Sheet.{sheetOf}
 use Rattle.sheet.specs.Parsed.{overhaulsOf, termsOf}
 use Rattle.sheet.specs.declared.Terms.{Terms}
-use Rattle.checking.specs.Answer.{accepted, firstBelow}
-use Rattle.checking.specs.Refusals.{headerNumber, fieldsNumber, ageBefore, overhaulOk, overhaulAnswer, optionAnswer}
-use Rattle.checking.proofs.AnswerLaws.{first-zero}
+use Rattle.checking.specs.Refusals.{ageBefore, overhaulOk, headerNumber, fieldsNumber, overhaulAnswer, optionAnswer}
 use Rattle.checking.proofs.RuleLaws.{age-before-zero, age-before-suc, entry-tested}
 use Rattle.checking.proofs.PassesLaws.{header-iff}
-use Rattle.checking.proofs.CheckLaws.{met, discount-small, next-overhaul, next-option, header-refused, all-passed, fields-refused, overhaul-refused}
+use Rattle.checking.proofs.CheckLaws.{check-answers, discount-small, next-overhaul, next-option, header-refused, all-passed, fields-refused, overhaul-refused}
 use Rattle.checking.proofs.check.Statement.{statement}
 use Rattle.checking.proofs.check.Tie as tie
 
@@ -62,7 +62,7 @@ refused-requires : tie.Need-refused-requires Inv-loop μ-loop Inv-options μ-opt
 refused-requires c κs = search needs
 
 returns : tie.Need-returns Inv-loop μ-loop Inv-options μ-options
-returns c = met _ _ _ (c .refused .ensures) (header-refused _ _ (c .before .before .header-number .ensures) (c .before .if1 .taken))
+returns c = check-answers _ _ _ (c .refused .ensures) (header-refused _ _ (c .before .before .header-number .ensures) (c .before .if1 .taken))
 
 discount-of-requires : tie.Need-discount-of-requires Inv-loop μ-loop Inv-options μ-options
 discount-of-requires c κs = long c
@@ -127,17 +127,17 @@ options-again c = (
 
 returns-2 : tie.Need-returns-2 Inv-loop μ-loop Inv-options μ-options
 returns-2 c =
-    met _ _ _ (c .accepted .ensures) (all-passed _ (header-passed (c .before .before .before .before)) _ (c .before .if2 .taken) (c .before .before .options .inv .1))
+    check-answers _ _ _ (c .accepted .ensures) (all-passed _ (header-passed (c .before .before .before .before)) _ (c .before .if2 .taken) (c .before .before .options .inv .1))
 
 returns-3 : tie.Need-returns-3 Inv-loop μ-loop Inv-options μ-options
 returns-3 c =
-    met _ _ _ (c .refused2 .ensures)
+    check-answers _ _ _ (c .refused2 .ensures)
     (fields-refused _ (header-passed (c .before .before .before .before .before .before .before)) _ (omega arith) (c .before .before .before .before .before .options .inv .1) _ (fields-found (c .before .before)) (c .before .if3 .taken))
 
 returns-4 : tie.Need-returns-4 Inv-loop μ-loop Inv-options μ-options
 returns-4 c =
     let f = c .before .before .before .before .before .before .before .before in
-    met _ _ _ (c .refused3 .ensures)
+    check-answers _ _ _ (c .refused3 .ensures)
     (overhaul-refused _ (header-passed (f .before .before .before .before .before)) _ (omega arith) (f .before .before .before .options .inv .1) _
     (sym (fields-found f) ∙ c .before .before .before .before .before .before .before .if3 .left) (omega arith) (c .before .before .before .before .before .before .loop .inv .2)
     (sym (entry-found (c .before .before)) ∙ not-true (c .before .before .entry-ok .result) (c .before .if4 .taken)))

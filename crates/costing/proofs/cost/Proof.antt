@@ -1,18 +1,23 @@
 -- `cost` is `costed`: refused by the check, or not offered, or the cost of the arc. Assumes nothing.
 use Prim.Native.Nat.{ℕ}
-use mathlib.Core.Path.{_≡_, sym, ap, _∙_}
-use mathlib.Core.Bool.{true}
+use mathlib.Core.Path.{_≡_, sym, ap, subst, _∙_}
 use native.Mathlib.Omega.{arith}
 use borrow.Author.Needs.{needs}
 use borrow.Author.Tests.{not-true, not-false}
+use Rattle.base.specs.Answer.{accepted, refused}
+use Rattle.base.specs.declared.Answer.{Answer}
 use Rattle.sheet.specs.Sheet.{sheetOf}
-use Rattle.checking.specs.Answer.{accepted, refused}
+use Rattle.sheet.specs.Parsed.{termsOf}
 use Rattle.checking.specs.Refusals.{checked}
 use Rattle.checking.specs.Passes.{Passes}
-use Rattle.checking.specs.declared.Answer.{Answer}
-use Rattle.costing.specs.Offered.{offered}
-use Rattle.costing.proofs.OfferedLaws.{offered-iff}
-use Rattle.costing.proofs.CostLaws.{cost-refused, cost-unoffered, cost-offered, met}
+use Rattle.checking.proofs.FitLaws.{fit}
+use Rattle.costing.specs.Arc.{arcOf}
+use Rattle.costing.specs.Offered.{offered, Offered}
+use Rattle.costing.specs.Fit.{KeptFits}
+use Rattle.costing.specs.declared.Kept.{Kept}
+use Rattle.costing.proofs.SheetArcLaws.{kept-made, cost-paid, kept-fits}
+use Rattle.costing.proofs.OfferedLaws.{offered-read, offered-iff}
+use Rattle.costing.proofs.CostLaws.{cost-refused, cost-unoffered, cost-offered, cost-answers}
 use Rattle.costing.proofs.cost.Statement.{statement}
 use Rattle.costing.proofs.cost.Tie as tie
 
@@ -20,7 +25,7 @@ check-requires : tie.Need-check-requires
 check-requires c κs = search needs
 
 returns : tie.Need-returns
-returns c = met _ _ _ _ _ (cost-refused _ _ _ _ _ (c .before .before .check .ensures .0) (c .if1 .taken))
+returns c = cost-answers _ _ _ _ _ (cost-refused _ _ _ _ _ (c .before .before .check .ensures .0) (c .if1 .taken))
 
 -- the sheet passes where the code goes on
 passed : (c : tie.Else1) → checked (c .before .before .before .before .args .sheet .now) .number ≡ 0
@@ -29,15 +34,47 @@ passed c = ap (λ (a : Answer). a .number) (sym (c .before .before .check .ensur
 passes : (c : tie.Else1) → Passes (c .before .before .before .before .args .sheet .now)
 passes c = c .before .before .check .ensures .1 .0 (c .if1 .left)
 
--- and then the arc is offered where the code goes on
+-- what is tested is whether the sheet offers the arc
+tested :
+    (c : tie.After-offered-by) →
+    let a = c .before .before .before .before .before .before .before .before .args in
+    c .offered-by .result ≡ offered (sheetOf (a .sheet .now)) (a .option) (a .start) (a .end)
+tested c =
+    let known = c .before .before .before .smaller in
+    c .offered-by .ensures
+    ∙ offered-read _ _ _ _ (known .result) (known .ensures) (c .before .horizon-of .ensures) (c .before .before .terms-of .ensures)
+
+-- so the arc is offered where the code goes on
 found :
     (c : tie.Else2) →
-    let a = c .before .before .before .before .before .before .args in
-    offered (sheetOf (a .sheet .now)) (a .option) (a .start) (a .end) ≡ true
-found c = sym (c .before .offered-on .ensures) ∙ not-false _ (c .if2 .left)
+    let a = c .before .before .before .before .before .before .before .before .before .args in
+    Offered (sheetOf (a .sheet .now)) (a .option) (a .start) (a .end)
+found c = offered-iff _ _ _ _ .0 (sym (tested (c .before)) ∙ not-false _ (c .if2 .left))
 
-offered-on-requires : tie.Need-offered-on-requires
-offered-on-requires c κs = passes c .header .long
+-- and the option that is kept is the arc's
+made :
+    (c : tie.After-kept-on) →
+    let a = c .before .before .before .before .before .before .before .before .before .before .before .args in
+    c .kept-on .result ≡ arcOf (sheetOf (a .sheet .now)) (a .option) (a .start) (a .end) .kept
+made c =
+    let d = c .before .before in
+    let terms = d .before .before .before in
+    let a = terms .before .before .before .before .before .before .args in
+    let known : terms .before .smaller .result ≡ a .option = omega (arith, terms .before .smaller .ensures, found d .known) in
+    c .kept-on .ensures
+    ∙ kept-made _ _ _ _ (terms .terms-of .ensures ∙ ap (λ (k : ℕ). termsOf (sheetOf (a .sheet .now) .option k)) known) (c .before .discount-of .ensures)
+
+smaller-requires : tie.Need-smaller-requires
+smaller-requires c κs = search needs
+
+terms-of-requires : tie.Need-terms-of-requires
+terms-of-requires c κs = (passes (c .before) .header .long, omega (arith, c .smaller .ensures))
+
+horizon-of-requires : tie.Need-horizon-of-requires
+horizon-of-requires c κs = passes (c .before .before) .header .long
+
+offered-by-requires : tie.Need-offered-by-requires
+offered-by-requires c κs = search needs
 
 refused-requires : tie.Need-refused-requires
 refused-requires c κs = search needs
@@ -45,20 +82,52 @@ refused-requires c κs = search needs
 returns-2 : tie.Need-returns-2
 returns-2 c =
     let d = c .before .before in
-    let out = sym (d .offered-on .ensures) ∙ not-true _ (c .before .if2 .taken) in
-    met _ _ _ _ _ (c .refused .ensures ∙ ap (λ (n : ℕ). refused n 3) (omega arith) ∙ cost-unoffered _ _ _ _ (passed (d .before)) out)
+    let out = sym (tested d) ∙ not-true _ (c .before .if2 .taken) in
+    cost-answers _ _ _ _ _
+    (c .refused .ensures ∙ ap (λ (n : ℕ). refused n 3) (omega arith) ∙ cost-unoffered _ _ _ _ (passed (d .before .before .before .before)) out)
 
-arc-on-requires : tie.Need-arc-on-requires
-arc-on-requires c κs = (passes (c .before .before), offered-iff _ _ _ _ .0 (found c))
+discount-of-requires : tie.Need-discount-of-requires
+discount-of-requires c κs = passes (c .before .before .before .before .before) .header .long
+
+kept-on-requires : tie.Need-kept-on-requires
+kept-on-requires c κs = search needs
+
+of-requires : tie.Need-of-requires
+of-requires c κs =
+    let rate = passes (c .before .before .before .before .before .before .before) .header .rate in
+    (omega (arith, c .before .discount-of .ensures), omega (arith, c .before .discount-of .ensures))
+
+sub-cost : tie.Need-sub-cost
+sub-cost c = found (c .before .before .before) .forward
+
+cost-requires : tie.Need-cost-requires
+cost-requires c κs =
+    let k = c .before in
+    let e = k .before .before in
+    let h = passes (e .before .before .before .before .before) in
+    let o = found e in
+    let d = c .of .ensures in
+    let same : c .of .result .by ≡ k .kept-on .result .discount =
+    d .0 ∙ sym (ap (λ (a : Kept). a .discount) (k .kept-on .ensures)) in (
+      record {
+        fits = subst KeptFits (sym (made k)) (kept-fits _ _ _ _ (fit _ h) (o .known) (omega (arith, o .forward, o .inside)));
+        divides = record { ready = d .1; number = same };
+      },
+      omega (arith, o .forward, o .inside, h .header .horizon .1),
+    )
 
 accepted-requires : tie.Need-accepted-requires
 accepted-requires c κs = search needs
 
 returns-3 : tie.Need-returns-3
 returns-3 c =
-    let d = c .before .before in
-    let units = c .before .arc-on .ensures in
-    met _ _ _ _ _ (c .accepted .ensures ∙ ap accepted (omega (arith, units)) ∙ cost-offered _ _ _ _ (passed (d .before .before)) (found d))
+    let k = c .before .before .before in
+    let e = k .before .before in
+    let units = c .before .cost .ensures ∙ cost-paid _ _ _ _ _ (made k) in
+    cost-answers _ _ _ _ _
+    (c .accepted .ensures
+    ∙ ap accepted (omega (arith, units))
+    ∙ cost-offered _ _ _ _ (passed (e .before .before .before .before .before)) (offered-iff _ _ _ _ .1 (found e)))
 
 pub cost-spec : {M : Type 1} → statement M
 cost-spec =
@@ -66,9 +135,16 @@ cost-spec =
     (tie.spec
     check-requires
     returns
-    offered-on-requires
+    smaller-requires
+    terms-of-requires
+    horizon-of-requires
+    offered-by-requires
     refused-requires
     returns-2
-    arc-on-requires
+    discount-of-requires
+    kept-on-requires
+    of-requires
+    sub-cost
+    cost-requires
     accepted-requires
     returns-3)

@@ -4,20 +4,20 @@ use mathlib.Core.Path.{_≡_, ap, sym, subst, _∙_}
 use mathlib.Core.Bool.{true}
 use native.Mathlib.Omega.{arith}
 use lib.ListN.{getD-replicate}
-use Rattle.sheet.specs.Sheet.{PlanningSheet}
+use borrow.Author.Needs.{needs}
+use Rattle.sheet.specs.Layout.{yearPlaces}
+use Rattle.sheet.specs.Sheet.{PlanningSheet, maintain}
 use Rattle.sheet.specs.Parsed.{parsed}
 use Rattle.sheet.proofs.ParsedLaws.{horizon-read}
 use Rattle.checking.specs.Fit.{Fit}
 use Rattle.costing.specs.Offered.{offered}
 use Rattle.costing.proofs.OfferedLaws.{offered-iff}
-use Rattle.chain.specs.Chain.{maintain}
 use Rattle.choice.specs.Running.{noTotal}
-use Rattle.tails.specs.declared.Best.{Best}
+use Rattle.weighing.specs.declared.Best.{Best}
 use Rattle.front.specs.Planned.{planned}
 use Rattle.front.specs.Front.{front}
 use Rattle.front.proofs.PlannedLaws.{planned-noEntry}
 use Rattle.front.proofs.TakenLaws.{planned-front}
-use borrow.Author.Needs.{needs}
 use Rattle.front.proofs.best_front.Statement.{statement}
 use Rattle.front.proofs.best_front.Tie as tie
 
@@ -30,7 +30,7 @@ returns c p read =
     let s = start (c .before) in
     let best = c .before .best-maintain .ensures p read in
     let total = ap (λ (b : Best). b .total) best in
-    let none = planned-noEntry p (subst Fit read (s .pre .0 .0)) (sym total ∙ c .if1 .taken) in
+    let none = planned-noEntry p (subst Fit read (s .pre .0 .0 .fit)) (sym total ∙ c .if1 .taken) in
     let same = sym (ap front none) in
     subst (λ (n : ℕ). record { total = n; i = 0; j = 0 } ≡ front (planned p)) (sym (c .if1 .taken)) same
 
@@ -43,13 +43,13 @@ i-offered c p read = planned-front p (c .before .best-maintain .result) (c .befo
 i-inside : (c : tie.Else1) → c .before .best-maintain .result .end ≤ 300
 i-inside c =
     let s = start (c .before) in
-    let some = s .pre .0 .1 in
-    let o = offered-iff (some .0) maintain 0 (c .before .best-maintain .result .end) .0 (i-offered c (some .0) (some .1)) in
-    omega (arith, o .inside, horizon-read (s .args .sheet) (some .0) (some .1), s .pre .0 .0 .horizonHigh)
+    let some = s .pre .0 .0 in
+    let o = offered-iff (some .sheet) maintain 0 (c .before .best-maintain .result .end) .0 (i-offered c (some .sheet) (some .read)) in
+    omega (arith, o .inside, horizon-read (s .args .sheet) (some .sheet) (some .read), some .fit .horizonHigh)
 
 returns-2 : tie.Need-returns-2
 returns-2 c p read =
-    let held = c .before .before .before .before .before .renovations .ensures .1 in
+    let held = c .before .before .before .before .before .renovations .ensures .2 in
     planned-front p (c .before .best-maintain .result) (c .before .best-maintain .ensures p read) (c .if1 .left) .1 _
     (held .held p read (c .before .best-maintain .result .end) (i-offered c p read))
 
@@ -62,7 +62,7 @@ slice-aggregate-renovations-2 c = search needs
 renovations-requires : tie.Need-renovations-requires
 renovations-requires c κs =
     let s = c .before .before .before in
-    (s .pre .0, (s .pre .1, (λ y l. getD-replicate 301 y noTotal 0 (omega arith), omega arith, omega arith)))
+    (s .pre .0, (s .pre .1, (λ y l. getD-replicate yearPlaces y noTotal 0 (omega arith), omega arith, omega arith)))
 
 slice-aggregate-best-maintain : tie.Need-slice-aggregate-best-maintain
 slice-aggregate-best-maintain c = search needs

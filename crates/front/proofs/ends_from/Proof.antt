@@ -23,7 +23,7 @@ abbrev μ-loop : tie.MeasureT-loop
 μ-loop ends₀ firsts sheet j year₀ count₀ ends year count = sheet .horizon - year
 
 short : (s : tie.Start Inv-loop μ-loop) → s .args .sheet .horizon ≤ 300
-short s = s .pre .0 .0 .horizonHigh
+short s = s .pre .0 .0 .fit .horizonHigh
 
 -- the end that follows the year reached
 abbrev end : tie.At-loop Inv-loop μ-loop → ℕ
@@ -38,7 +38,7 @@ next c p read =
     let s = a .before in
     let T = horizon-read (s .args .sheet) p read in
     tail-next p (a .loop .year) (end a) (omega (arith, T, c .if1 .taken)) (a .loop .inv .3 p read .there)
-    (s .pre .0 .2 .held p read (a .loop .year) (omega (arith, T, c .if1 .taken)))
+    (s .pre .0 .1 .held p read (a .loop .year) (omega (arith, T, c .if1 .taken)))
 
 -- there is a place for it
 room : (c : tie.Then1 Inv-loop μ-loop) → let a = c .before .before in a .loop .count < length (a .loop .ends)
@@ -50,9 +50,9 @@ room c =
 later : (c : tie.Then1 Inv-loop μ-loop) → let a = c .before .before in (a .loop .year < end a) × (end a ≤ a .before .args .sheet .horizon)
 later c =
     let a = c .before .before in
-    let some = a .before .pre .0 .1 in
-    let n = next c (some .0) (some .1) in
-    (n .later, omega (arith, n .inside, horizon-read (a .before .args .sheet) (some .0) (some .1)))
+    let some = a .before .pre .0 .0 in
+    let n = next c (some .sheet) (some .read) in
+    (n .later, omega (arith, n .inside, horizon-read (a .before .args .sheet) (some .sheet) (some .read)))
 
 loop-again : tie.Need-loop-again Inv-loop μ-loop
 loop-again c =
@@ -81,7 +81,7 @@ mul-year c = let a = c .before .before in omega (arith, a .loop .inv .0, short (
 shared-slice-read-year : tie.Need-shared-slice-read-year Inv-loop μ-loop
 shared-slice-read-year c =
     let a = c .before .before .before in
-    omega (arith, a .loop .inv .0, short (a .before), a .before .pre .0 .2 .room)
+    omega (arith, a .loop .inv .0, short (a .before), a .before .pre .0 .1 .room)
 
 mul-ends : tie.Need-mul-ends Inv-loop μ-loop
 mul-ends c = let a = c .before .before .before in omega (arith, a .loop .inv .0, a .loop .inv .1, short (a .before))

@@ -1,7 +1,7 @@
 -- `nimovalsa_check` returns what `check` answers; the answer packs, since its total is 0 and it is in the table. Assumes nothing.
 use lib.Dec.{lit<}
-use Rattle.checking.proofs.RangeLaws.{checked-range, checked-total}
 use borrow.Author.Needs.{needs}
+use Rattle.checking.proofs.RangeLaws.{checked-total, checked-range}
 use Rattle.nimovalsa.proofs.PackedLaws.{returns-same}
 use Rattle.nimovalsa.proofs.nimovalsa_check.Statement.{statement}
 use Rattle.nimovalsa.proofs.nimovalsa_check.Tie as tie

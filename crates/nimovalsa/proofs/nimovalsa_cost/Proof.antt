@@ -1,6 +1,6 @@
 -- `nimovalsa_cost` returns what `cost` answers; the answer packs, since an arc costs less than 2^56 units. Assumes nothing.
-use Rattle.costing.proofs.CostLaws.{costed-range, costed-lt}
 use borrow.Author.Needs.{needs}
+use Rattle.costing.proofs.CostLaws.{costed-range, costed-lt}
 use Rattle.nimovalsa.proofs.PackedLaws.{returns-same}
 use Rattle.nimovalsa.proofs.nimovalsa_cost.Statement.{statement}
 use Rattle.nimovalsa.proofs.nimovalsa_cost.Tie as tie

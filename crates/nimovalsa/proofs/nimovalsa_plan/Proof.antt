@@ -1,9 +1,9 @@
 -- `nimovalsa_plan` returns what `plan` answers, and leaves what it leaves; the promises follow for what was returned. Assumes nothing.
 use mathlib.Core.Path.{sym, subst}
 use denote.Ref.{now}
+use borrow.Author.Needs.{needs}
 use Rattle.planner.proofs.RangeLaws.{Small, plan-small}
 use Rattle.planner.proofs.Demands.{promised}
-use borrow.Author.Needs.{needs}
 use Rattle.nimovalsa.proofs.PackedLaws.{returns-same}
 use Rattle.nimovalsa.proofs.nimovalsa_plan.Statement.{statement}
 use Rattle.nimovalsa.proofs.nimovalsa_plan.Tie as tie

@@ -1,6 +1,6 @@
 -- `nimovalsa_price` returns what `price` answers; the answer packs, since a chain costs less than 2^56 units. Assumes nothing.
-use Rattle.chain.proofs.PriceLaws.{priced-range, priced-lt}
 use borrow.Author.Needs.{needs}
+use Rattle.pricing.proofs.PriceLaws.{priced-range, priced-lt}
 use Rattle.nimovalsa.proofs.PackedLaws.{returns-same}
 use Rattle.nimovalsa.proofs.nimovalsa_price.Statement.{statement}
 use Rattle.nimovalsa.proofs.nimovalsa_price.Tie as tie

@@ -5,18 +5,19 @@ use mathlib.Core.Path.{_≡_, ap, sym, subst, _∙_}
 use native.Mathlib.Omega.{arith}
 use lib.ListN.{length, drop}
 use denote.Ref.{now}
+use borrow.Author.Needs.{needs}
+use Rattle.base.specs.Answer.{refused}
+use Rattle.base.specs.declared.Answer.{Answer}
 use Rattle.sheet.specs.Sheet.{sheetOf}
-use Rattle.checking.specs.Answer.{refused}
 use Rattle.checking.specs.Refusals.{checked}
 use Rattle.checking.specs.Passes.{Passes}
-use Rattle.checking.specs.Fit.{Fit}
-use Rattle.checking.specs.declared.Answer.{Answer}
+use Rattle.checking.specs.Fit.{Fit, SheetFits}
 use Rattle.checking.proofs.FitLaws.{fit}
+use Rattle.tails.specs.Words.{wordsNeeded, firstsStart}
 use Rattle.front.specs.Front.{TailsLent, FirstsLent}
-use Rattle.planner.proofs.PlanningLaws.{plan-refused, plan-few, plan-on}
+use Rattle.planning.proofs.PlanningLaws.{plan-refused, plan-few, plan-on}
 use Rattle.planner.proofs.FoundLaws.{tails-lent, firsts-lent}
-use Rattle.planner.proofs.Demands.{met}
-use borrow.Author.Needs.{needs}
+use Rattle.planner.proofs.Demands.{plan-answers}
 use Rattle.planner.proofs.plan.Statement.{statement}
 use Rattle.planner.proofs.plan.Tie as tie
 
@@ -26,7 +27,7 @@ start c = c .before .before .before .before
 returns : tie.Need-returns
 returns c =
     let k = c .before .before in
-    met _ _ _ (plan-refused _ _ _ (k .check .result) (k .check .ensures .0) (c .if1 .taken))
+    plan-answers _ _ _ (plan-refused _ _ _ (k .check .result) (k .check .ensures .0) (c .if1 .taken))
 
 -- the sheet passes where the code goes on
 passed : (c : tie.Else1) → checked (now (start (c .before .before) .args .sheet)) .number ≡ 0
@@ -39,23 +40,28 @@ returns-2 : tie.Need-returns-2
 returns-2 c =
     let words = now (start (c .before .before .before .before) .args .words) in
     let few = plan-few _ _ words (passed (c .before .before)) (omega (arith, c .before .if2 .taken)) in
-    met _ _ _ (c .refused .ensures ∙ ap (λ (n : ℕ). refused n 3) (omega arith) ∙ few .0, few .1, few .2)
+    plan-answers _ _ _ (c .refused .ensures ∙ ap (λ (n : ℕ). refused n 3) (omega arith) ∙ few .0, few .1, few .2)
 
 -- there are enough words where the code goes on
-enough : (c : tie.Else2) → 602 ≤ length (now (start (c .before .before .before) .args .words))
+enough : (c : tie.Else2) → wordsNeeded ≤ length (now (start (c .before .before .before) .args .words))
 enough c = omega (arith, c .if2 .left)
 
 -- the parsed sheet fits, and the words then have the totals of replacements
-fits : (c : tie.After-parse) → Fit (c .parse .result)
-fits c = subst Fit (sym (c .parse .ensures)) (fit _ (passes (c .before .before)))
+fits : (c : tie.After-parse) → SheetFits (c .parse .result)
+fits c =
+    record {
+      fit = subst Fit (sym (c .parse .ensures)) (fit _ (passes (c .before .before)));
+      sheet = sheetOf _;
+      read = c .parse .ensures;
+    }
 
 lent :
     (c : tie.After-tail-words)
     → TailsLent (c .before .before .parse .result) (c .tail-words .last .0)
-    × FirstsLent (c .before .before .parse .result) (drop 301 (c .tail-words .last .0))
+    × FirstsLent (c .before .before .parse .result) (drop firstsStart (c .tail-words .last .0))
 lent c =
     let q = c .before .before in
-    let far = fits q .horizonHigh in (
+    let far = fits q .fit .horizonHigh in (
       tails-lent _ far _ _ (enough (q .before)) (c .tail-words .kept .0) (c .tail-words .ensures .0),
       firsts-lent _ far _ _ (enough (q .before)) (c .tail-words .kept .0) (c .tail-words .ensures .0),
     )
@@ -66,7 +72,7 @@ returns-3 c =
     let t = w .before .before .before .before .before in
     let q = t .before .before in
     let read = q .parse .ensures in
-    met _ _ _
+    plan-answers _ _ _
     (plan-on _ _ _ (passed (q .before .before)) (enough (q .before)) _ _ _ (w .write-chosen .ensures .0 _ read)
     (w .write-chosen .ensures .1 _ read) (t .tail-words .ensures .0 _ read))
 
@@ -82,13 +88,13 @@ parse-requires c κs = passes (c .before) .header .long
 tail-words-requires : tie.Need-tail-words-requires
 tail-words-requires c κs =
     let q = c .before in
-    (fits q, (sheetOf _, q .parse .ensures), enough (q .before))
+    (fits q, enough (q .before))
 
 write-chosen-requires : tie.Need-write-chosen-requires
 write-chosen-requires c κs =
     let t = c .before .before .before .before in
     let q = t .before .before in
-    (fits q, (sheetOf _, q .parse .ensures), lent t .0, lent t .1)
+    (fits q, lent t .0, lent t .1)
 
 same-length : tie.Need-same-length
 same-length c = search needs

@@ -1,7 +1,7 @@
 -- A sheet is planned in its own buffers, which are enough, and what comes of it is put to the front of the text. Assumes nothing.
 use native.Mathlib.Omega.{arith}
 use borrow.Author.Needs.{needs}
-use Rattle.printing.proofs.TextLaws.{puts-of-lines}
+use Rattle.lines.proofs.TextLaws.{puts-of-lines}
 use Rattle.printing.proofs.ShownLaws.{shown-plan, shown-refusal, sheet-left, sheet-put}
 use Rattle.printing.proofs.show.Statement.{statement}
 use Rattle.printing.proofs.show.Tie as tie

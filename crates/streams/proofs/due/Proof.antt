@@ -4,10 +4,10 @@ use mathlib.Core.List.{List}
 use Prim.Native.Nat.{ℕ}
 use native.Mathlib.Omega.{arith}
 use lib.ListN.{getD}
-use Rattle.costing.specs.Payment.{rounded}
-use Rattle.costing.specs.Arc.{once, ageOf}
-use Rattle.streams.proofs.FallLaws.{falls-none, falls-one}
 use borrow.Author.Needs.{needs}
+use Rattle.steps.specs.Payment.{rounded, once}
+use Rattle.costing.specs.Arc.{ageOf}
+use Rattle.streams.proofs.FallLaws.{falls-none, falls-one}
 use Rattle.streams.proofs.due.Statement.{statement}
 use Rattle.streams.proofs.due.Tie as tie
 

@@ -1,14 +1,14 @@
 -- All streams of an option, one after the other: each is left by those behind it. Assumes nothing.
 use Prim.Native.Nat.{_*_}
 use native.Mathlib.Omega.{arith}
+use borrow.Author.Needs.{needs}
 use Rattle.sheet.specs.declared.Flow.{Flow}
-use Rattle.division.specs.Division.{Ready}
 use Rattle.checking.specs.Fit.{FlowFits}
-use Rattle.costing.specs.Fit.{PlainFits}
-use Rattle.costing.proofs.RoomLaws.{amount-fits}
+use Rattle.division.specs.Division.{DivisorReady}
+use Rattle.steps.specs.Fit.{PlainFits}
+use Rattle.steps.proofs.RoomLaws.{amount-fits}
 use Rattle.streams.specs.Streams.{part}
 use Rattle.streams.proofs.FillLaws.{left-through, stream-stays}
-use borrow.Author.Needs.{needs}
 use Rattle.streams.proofs.fill.Statement.{statement}
 use Rattle.streams.proofs.fill.Tie as tie
 
@@ -40,7 +40,7 @@ returns c =
 -- what filling the stream of a flow asks
 flow-asks :
     (s : tie.Start) (w : Flow) → FlowFits (s .args .discount .by) w
-    → PlainFits (w .grow) (s .args .discount .by) (w .amount * 10_000) × Ready (s .args .discount)
+    → PlainFits (w .grow) (s .args .discount .by) (w .amount * 10_000) × DivisorReady (s .args .discount)
 flow-asks s w h = let d = s .pre .0 in (amount-fits _ _ _ (d .1) (d .2) (h .grow .high) (h .amount), d .0)
 
 stream-requires : tie.Need-stream-requires

@@ -4,8 +4,8 @@ use Prim.Native.Nat.{ℕ}
 use native.Mathlib.Nat.{zero-add}
 use lib.ListN.{getD}
 use denote.Ref.{now}
-use Rattle.costing.proofs.WalkLaws.{walk-zero}
 use borrow.Author.Needs.{needs}
+use Rattle.costing.proofs.WalkLaws.{walk-zero}
 use Rattle.streams.proofs.open.Statement.{statement}
 use Rattle.streams.proofs.open.Tie as tie
 

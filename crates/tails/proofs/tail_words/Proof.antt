@@ -2,10 +2,10 @@
 use mathlib.Core.Path.{sym, subst}
 use native.Mathlib.Omega.{arith}
 use denote.Ref.{now}
+use borrow.Author.Needs.{needs}
 use Rattle.checking.specs.Fit.{Fit}
 use Rattle.tails.specs.Cheapest.{CheapestWords}
 use Rattle.tails.proofs.WordLaws.{words-cheapest}
-use borrow.Author.Needs.{needs}
 use Rattle.tails.proofs.tail_words.Statement.{statement}
 use Rattle.tails.proofs.tail_words.Tie as tie
 
@@ -19,7 +19,7 @@ returns c =
       words,
       λ p read.
           subst (CheapestWords p (now (s .args .words))) (sym (words p read))
-          (words-cheapest p (subst Fit read (s .pre .0)) (now (s .args .words)) (s .pre .2)),
+          (words-cheapest p (subst Fit read (s .pre .0 .fit)) (now (s .args .words)) (s .pre .1)),
     )
 
 of-requires : tie.Need-of-requires
@@ -32,7 +32,7 @@ lend-requires : tie.Need-lend-requires
 lend-requires c κs =
     let s = start (c .before) in
     let d = c .before .of .ensures in
-    ((s .pre .0, s .pre .1, record { ready = d .1; number = d .0 }), (omega arith, omega arith))
+    ((s .pre .0 .fit, record { ready = d .1; number = d .0 }), (omega arith, omega arith))
 
 slice-aggregate-fill : tie.Need-slice-aggregate-fill
 slice-aggregate-fill c = search needs
@@ -42,7 +42,7 @@ fill-requires c κs =
     let lent = c .before .before .before .before in
     let s = start (lent .before .before) in
     let d = lent .before .before .of .ensures in
-    ((s .pre .0, s .pre .1, record { ready = d .1; number = d .0 }), (lent .lend .ensures, s .pre .2))
+    ((s .pre .0, record { ready = d .1; number = d .0 }), (lent .lend .ensures, s .pre .1))
 
 same-length : tie.Need-same-length
 same-length c = search needs

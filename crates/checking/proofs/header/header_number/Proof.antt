@@ -5,12 +5,12 @@ use native.Mathlib.Omega.{arith}
 use lib.ListN.{length}
 use lib.Dec.{eqb}
 use borrow.Author.Tests.{not-true, not-false, eq-eqb, ne-eqb, le-leb, lt-leb}
+use borrow.Author.Needs.{needs}
+use Rattle.base.specs.Answer.{_unless_else_}
+use Rattle.base.proofs.AnswerLaws.{unless-pass, unless-stop}
 use Rattle.sheet.specs.Layout.{sheetLength}
 use Rattle.sheet.specs.Sheet.{sheetOf}
-use Rattle.checking.specs.Answer.{_unless_else_}
 use Rattle.checking.specs.Refusals.{markOk, versionOk, horizonOk, rateOk, headerNumber}
-use Rattle.checking.proofs.AnswerLaws.{unless-pass, unless-stop}
-use borrow.Author.Needs.{needs}
 use Rattle.checking.proofs.header.header_number.Statement.{statement}
 use Rattle.checking.proofs.header.header_number.Tie as tie
 

@@ -4,13 +4,13 @@ use mathlib.Core.Path.{_≡_, ap, sym, _∙_}
 use mathlib.Core.Bool.{true}
 use native.Mathlib.Omega.{arith}
 use borrow.Author.Tests.{not-true, not-false, le-leb, lt-leb}
-use Rattle.sheet.specs.Sheet.{OptionRecord}
-use Rattle.sheet.specs.Parsed.{termsOf, flowOf, overhaulsOf}
-use Rattle.sheet.specs.declared.Terms.{Terms}
-use Rattle.checking.specs.Answer.{_unless_else_}
-use Rattle.checking.specs.Refusals.{livesOk, amountsOk, inflationsOk, ageingsOk, countOk, fieldsNumber}
-use Rattle.checking.proofs.AnswerLaws.{unless-pass, unless-stop}
 use borrow.Author.Needs.{needs}
+use Rattle.base.specs.Answer.{_unless_else_}
+use Rattle.base.proofs.AnswerLaws.{unless-pass, unless-stop}
+use Rattle.sheet.specs.Sheet.{OptionRecord}
+use Rattle.sheet.specs.Parsed.{flowOf, overhaulsOf, termsOf}
+use Rattle.sheet.specs.declared.Terms.{Terms}
+use Rattle.checking.specs.Refusals.{livesOk, amountsOk, inflationsOk, ageingsOk, countOk, fieldsNumber}
 use Rattle.checking.proofs.option.fields_number.Statement.{statement}
 use Rattle.checking.proofs.option.fields_number.Tie as tie
 

@@ -5,7 +5,7 @@ use native.Mathlib.Omega.{arith}
 use Rattle.costing.specs.Arc.{paid, worth}
 use Rattle.costing.specs.Walk.{overhaulsAt, walkAt}
 use Rattle.costing.proofs.SumLaws.{paid-zero}
-use Rattle.costing.proofs.WalkLaws.{walk-years, walk-stands, walk-paid}
+use Rattle.costing.proofs.WalkLaws.{walk-paid, walk-years, walk-stands}
 use Rattle.costing.proofs.Kept.cost.Statement.{statement}
 use Rattle.costing.proofs.Kept.cost.Tie as tie
 
@@ -28,13 +28,13 @@ returns : tie.Need-returns Inv-loop μ-loop
 returns c = rw (c .if1 .taken) (sym (paid-zero _ _))
 
 open-requires : tie.Need-open-requires Inv-loop μ-loop
-open-requires c κs = let s = c .before in (s .pre .0, s .pre .1)
+open-requires c κs = let s = c .before in s .pre .0
 
 loop-holds : tie.Need-loop-holds Inv-loop μ-loop
 loop-holds c = (omega arith, c .«open» .ensures)
 
 overhauls-at-requires : tie.Need-overhauls-at-requires Inv-loop μ-loop
-overhauls-at-requires c κs = let s = c .before .before .before .before in (s .pre .0, s .pre .1, omega arith)
+overhauls-at-requires c κs = let s = c .before .before .before .before in (s .pre .0, omega arith)
 
 year-requires : tie.Need-year-requires Inv-loop μ-loop
 year-requires c κs =
@@ -42,7 +42,7 @@ year-requires c κs =
     let stands = c .before .before .loop .inv .1 in
     let years = walk-years (s .args .self) (c .before .before .loop .walk) _ stands in
     let due : ℕ → ℕ = λ n. worth (s .args .self) (overhaulsAt (s .args .self) n) in
-    ((s .pre .0, s .pre .1, omega arith), (walk-stands _ _ _ stands, c .overhauls-at .ensures ∙ ap due (omega arith)))
+    ((s .pre .0, omega arith), (walk-stands _ _ _ stands, c .overhauls-at .ensures ∙ ap due (omega arith)))
 
 add-n : tie.Need-add-n Inv-loop μ-loop
 add-n c = omega arith

@@ -1,6 +1,6 @@
 -- The investment and the running amounts of both flows, each after the plain steps to the start. Assumes nothing.
-use Rattle.costing.proofs.WalkLaws.{walk-zero}
 use borrow.Author.Needs.{needs}
+use Rattle.costing.proofs.WalkLaws.{walk-zero}
 use Rattle.costing.proofs.Kept.open.Statement.{statement}
 use Rattle.costing.proofs.Kept.open.Tie as tie
 
@@ -16,7 +16,7 @@ paid-once-requires-3 c κs = search needs
 returns : tie.Need-returns
 returns c =
     let s = c .before .before .before .before .before .before .before in
-    walk-zero _ (s .pre .1 .number) (c .before .before .paid-once .ensures) (c .before .paid-once2 .ensures) (c .paid-once3 .ensures)
+    walk-zero _ (s .pre .divides .number) (c .before .before .paid-once .ensures) (c .before .paid-once2 .ensures) (c .paid-once3 .ensures)
 
 pub open-spec : {M : Type 1} → statement M
 open-spec =

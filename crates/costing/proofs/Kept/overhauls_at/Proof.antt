@@ -2,7 +2,7 @@
 use Prim.Native.Nat.{_+_, _≤_, _-_}
 use mathlib.Core.Path.{_≡_, _∙_}
 use native.Mathlib.Omega.{arith}
-use Rattle.costing.proofs.RoomLaws.{amount-fits}
+use Rattle.steps.proofs.RoomLaws.{amount-fits}
 use Rattle.costing.proofs.WalkLaws.{dueBy, dueBy-zero, dueBy-suc, dueBy-all, dueBy-lt}
 use Rattle.costing.proofs.Kept.overhauls_at.Statement.{statement}
 use Rattle.costing.proofs.Kept.overhauls_at.Tie as tie
@@ -17,25 +17,25 @@ loop-holds : tie.Need-loop-holds Inv-loop μ-loop
 loop-holds c = (omega arith, dueBy-zero _ _)
 
 mul-overhaul-at : tie.Need-mul-overhaul-at Inv-loop μ-loop
-mul-overhaul-at c = omega (arith, c .before .before .before .before .before .before .pre .0 .terms .overhauls .count)
+mul-overhaul-at c = omega (arith, c .before .before .before .before .before .before .pre .0 .fits .terms .overhauls .count)
 
 array-read-overhaul-at : tie.Need-array-read-overhaul-at Inv-loop μ-loop
-array-read-overhaul-at c = omega (arith, c .before .before .before .before .before .before .pre .0 .terms .overhauls .count)
+array-read-overhaul-at c = omega (arith, c .before .before .before .before .before .before .pre .0 .fits .terms .overhauls .count)
 
 mul-overhaul-at-2 : tie.Need-mul-overhaul-at-2 Inv-loop μ-loop
-mul-overhaul-at-2 c = omega (arith, c .before .before .before .before .before .before .pre .0 .terms .overhauls .count)
+mul-overhaul-at-2 c = omega (arith, c .before .before .before .before .before .before .pre .0 .fits .terms .overhauls .count)
 
 array-read-overhaul-at-2 : tie.Need-array-read-overhaul-at-2 Inv-loop μ-loop
-array-read-overhaul-at-2 c = omega (arith, c .before .before .before .before .before .before .pre .0 .terms .overhauls .count)
+array-read-overhaul-at-2 c = omega (arith, c .before .before .before .before .before .before .pre .0 .fits .terms .overhauls .count)
 
 overhaul-at-requires : tie.Need-overhaul-at-requires Inv-loop μ-loop
 overhaul-at-requires c κs =
     let s = c .before .before .before .before .before .before in
-    let h = s .pre .0 in
-    let d = s .pre .1 in
+    let h = s .pre .0 .fits in
+    let d = s .pre .0 .divides in
     let o = h .terms .overhauls in
     let fits = amount-fits _ _ _ (h .low) (h .high) (o .grow .high) (o .amount _ (c .loop-test .taken)) in
-    ((rw (d .number) fits, d .ready), (h .from, s .pre .2))
+    ((rw (d .number) fits, d .ready), (h .from, s .pre .1))
 
 sum-next :
     (c : tie.After-overhaul-at Inv-loop μ-loop) →
@@ -43,13 +43,13 @@ sum-next :
     c .before .before .loop .sum + c .overhaul-at .result .0 ≡ dueBy (a .self) (a .n) (c .before .before .loop .j + 1)
 sum-next c =
     let s = c .before .before .before .before .before .before .before in
-    rw (c .before .before .loop .inv .1, c .overhaul-at .ensures) (dueBy-suc _ _ _ (s .pre .1 .number))
+    rw (c .before .before .loop .inv .1, c .overhaul-at .ensures) (dueBy-suc _ _ _ (s .pre .0 .divides .number))
 
 add-sum : tie.Need-add-sum Inv-loop μ-loop
 add-sum c =
     let s = c .before .before .before .before .before .before .before .before in
     let k = c .before .before .before .loop .j + 1 in
-    rw (sum-next (c .before)) (omega (arith, dueBy-lt (s .args .self) (s .pre .0) (s .args .n) k (omega arith)))
+    rw (sum-next (c .before)) (omega (arith, dueBy-lt (s .args .self) (s .pre .0 .fits) (s .args .n) k (omega arith)))
 
 add-j : tie.Need-add-j Inv-loop μ-loop
 add-j c = omega arith

@@ -13,14 +13,14 @@ use Rattle.costing.proofs.Walk.year.Tie as tie
 returns : tie.Need-returns
 returns c =
     let s = c .before .before .before .before .before .before .before .before .before .before .before in
-    walk-suc (s .args .kept) (s .args .self) (s .pre .1 .0) _ _ _ (s .pre .1 .1) (s .pre .0 .1 .number)
+    walk-suc (s .args .kept) (s .args .self) (s .pre .1 .0) _ _ _ (s .pre .1 .1) (s .pre .0 .0 .divides .number)
     (c .before .before .before .before .before .before .in-service .ensures) (c .before .before .before .before .before .in-service2 .ensures)
 
 in-service-requires : tie.Need-in-service-requires
 in-service-requires c κs =
     let s = c .before .before .before .before in
-    let h = s .pre .0 .0 in
-    let d = s .pre .0 .1 in (
+    let h = s .pre .0 .0 .fits in
+    let d = s .pre .0 .0 .divides in (
       rw (d .number, ap (λ (w : Walk). w .maintenance .0) (s .pre .1 .0) ∙ walkAt-maintenance _ _)
           (inYear-fits _ _ _ _ (h .low) (h .high) (h .terms .maintenance) (omega arith)),
       d .ready,
@@ -29,8 +29,8 @@ in-service-requires c κs =
 in-service-requires-2 : tie.Need-in-service-requires-2
 in-service-requires-2 c κs =
     let s = c .before .before .before .before .before in
-    let h = s .pre .0 .0 in
-    let d = s .pre .0 .1 in (
+    let h = s .pre .0 .0 .fits in
+    let d = s .pre .0 .0 .divides in (
       rw (d .number, ap (λ (w : Walk). w .electricity .0) (s .pre .1 .0) ∙ walkAt-electricity _ _)
           (inYear-fits _ _ _ _ (h .low) (h .high) (h .terms .electricity) (omega arith)),
       d .ready,
@@ -43,8 +43,8 @@ room :
     s .args .self .cost .0 + s .args .due .0 + c .before .in-service .result .0 + c .in-service2 .result .0 < 2 ^ 64
 room c =
     let s = c .before .before .before .before .before .before in
-    walk-room (s .args .kept) (s .args .self) (s .pre .1 .0) _ _ _ (s .pre .1 .1) (s .pre .0 .1 .number) (c .before .in-service .ensures)
-    (c .in-service2 .ensures) (s .pre .0 .0) (omega arith)
+    walk-room (s .args .kept) (s .args .self) (s .pre .1 .0) _ _ _ (s .pre .1 .1) (s .pre .0 .0 .divides .number) (c .before .in-service .ensures)
+    (c .in-service2 .ensures) (s .pre .0 .0 .fits) (omega arith)
 
 add-sum : tie.Need-add-sum
 add-sum c = omega (arith, room (c .before .before))

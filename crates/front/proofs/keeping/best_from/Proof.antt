@@ -2,8 +2,8 @@
 use mathlib.Core.Path.{ap, _∙_}
 use native.Mathlib.Omega.{arith}
 use denote.Ref.{now}
-use Rattle.tails.specs.Best.{bestTo, wordOf}
 use borrow.Author.Needs.{needs}
+use Rattle.weighing.specs.Ends.{bestTo, wordOf}
 use Rattle.front.proofs.keeping.best_from.Statement.{statement}
 use Rattle.front.proofs.keeping.best_from.Tie as tie
 

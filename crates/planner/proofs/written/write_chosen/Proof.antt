@@ -5,20 +5,21 @@ use native.Mathlib.Omega.{arith}
 use lib.ListN.{length, drop, length-drop}
 use lib.Seq.{sets, take-all}
 use denote.Ref.{now}
+use borrow.Author.Needs.{needs}
+use Rattle.base.specs.Answer.{accepted, refused}
 use Rattle.sheet.specs.Sheet.{PlanningSheet}
 use Rattle.sheet.specs.Parsed.{parsed}
 use Rattle.sheet.proofs.ParsedLaws.{horizon-read}
-use Rattle.checking.specs.Answer.{accepted, refused}
-use Rattle.chain.specs.PlanBytes.{encode}
 use Rattle.choice.specs.Running.{noTotal}
+use Rattle.chain.specs.PlanBytes.{encode}
+use Rattle.tails.specs.Words.{firstsStart}
 use Rattle.front.specs.Planned.{planned}
 use Rattle.front.specs.Front.{front, FirstsLent}
 use Rattle.front.specs.declared.Front.{Front}
 use Rattle.front.proofs.TakenLaws.{planned-begins}
-use Rattle.planner.specs.Planning.{found, planWith}
-use Rattle.planner.proofs.PlanningLaws.{SheetOutcome, planning-none, planning-short, planning-fits}
+use Rattle.planning.specs.Planning.{found, planWith}
+use Rattle.planning.proofs.PlanningLaws.{SheetOutcome, planning-none, planning-short, planning-fits}
 use Rattle.planner.proofs.FoundLaws.{found-read, found-count, found-few}
-use borrow.Author.Needs.{needs}
 use Rattle.planner.proofs.written.write_chosen.Statement.{statement}
 use Rattle.planner.proofs.written.write_chosen.Tie as tie
 
@@ -48,9 +49,9 @@ count-read c p read =
 count-few : (c : tie.After-ends-from) → c .ends-from .result ≤ length (c .ends-from .last .0)
 count-few c =
     let f = c .before .before .before .before in
-    let some = start f .pre .1 in
-    found-few (some .0) (f .best-front .result) (begins f (some .0) (some .1)) (exists (c .before .before .before)) _ _
-    (c .ends-from .ensures (some .0) (some .1))
+    let some = start f .pre .0 in
+    found-few (some .sheet) (f .best-front .result) (begins f (some .sheet) (some .read)) (exists (c .before .before .before)) _ _
+    (c .ends-from .ensures (some .sheet) (some .read))
 
 -- no chain
 none :
@@ -125,7 +126,7 @@ slice-aggregate-ends-from : tie.Need-slice-aggregate-ends-from
 slice-aggregate-ends-from c = search needs
 
 sub-ends-from : tie.Need-sub-ends-from
-sub-ends-from c = omega (arith, start (c .before .before) .pre .2 .room)
+sub-ends-from c = omega (arith, start (c .before .before) .pre .1 .room)
 
 part-ends-from-start : tie.Need-part-ends-from-start
 part-ends-from-start c = search needs
@@ -137,10 +138,10 @@ ends-from-requires : tie.Need-ends-from-requires
 ends-from-requires c κs =
     let f = c .before .before .before in
     let s = start f in
-    let some = s .pre .1 in
-    let T = horizon-read (s .args .sheet) (some .0) (some .1) in
-    let b = planned-begins (some .0) (f .best-front .result) (begins f (some .0) (some .1)) (exists (c .before .before)) in (
-      (s .pre .0, some, subst (FirstsLent (s .args .sheet)) (sym (take-all (length (now (s .args .words)) - 301) (drop 301 (now (s .args .words))) (simp length-drop (omega arith)))) (s .pre .3)),
+    let some = s .pre .0 in
+    let T = horizon-read (s .args .sheet) (some .sheet) (some .read) in
+    let b = planned-begins (some .sheet) (f .best-front .result) (begins f (some .sheet) (some .read)) (exists (c .before .before)) in (
+      (some, subst (FirstsLent (s .args .sheet)) (sym (take-all (length (now (s .args .words)) - firstsStart) (drop firstsStart (now (s .args .words))) (simp length-drop (omega arith)))) (s .pre .2)),
       (omega (arith, b .inside, T), λ p read. planned-begins p (f .best-front .result) (begins f p read) (exists (c .before .before)) .there, omega arith),
     )
 

@@ -3,9 +3,9 @@ use Prim.Native.Nat.{ℕ}
 use mathlib.Core.Path.{ap, _∙_}
 use mir.Val.{toZ}
 use mir.Syntax.{w32}
-use Rattle.sheet.specs.Sheet.{factor}
-use Rattle.sheet.specs.Layout.{i32At}
 use borrow.Author.Needs.{needs}
+use Rattle.base.specs.Numbers.{i32At}
+use Rattle.sheet.specs.Sheet.{factor}
 use Rattle.sheet.proofs.fields.factor_at.Statement.{statement}
 use Rattle.sheet.proofs.fields.factor_at.Tie as tie
 

@@ -5,9 +5,9 @@ use native.Mathlib.Omega.{arith}
 use native.Mathlib.Nat.{not-suc-le-zero}
 use lib.ListN.{length}
 use denote.Ref.{now}
-use Rattle.costing.proofs.RoomLaws.{amount-fits}
+use Rattle.steps.proofs.RoomLaws.{amount-fits}
 use Rattle.streams.specs.Streams.{Left, part, OverhaulStreams}
-use Rattle.streams.proofs.FillLaws.{streams-next, left-through}
+use Rattle.streams.proofs.FillLaws.{left-through, streams-next}
 use Rattle.streams.proofs.filling.overhauls.Statement.{statement}
 use Rattle.streams.proofs.filling.overhauls.Tie as tie
 

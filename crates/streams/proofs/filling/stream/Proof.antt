@@ -5,10 +5,10 @@ use native.Mathlib.Omega.{arith}
 use native.Mathlib.Nat.{not-suc-le-zero}
 use lib.ListN.{getD, length, length-set}
 use denote.Ref.{now}
-use Rattle.costing.specs.Payment.{rounded}
-use Rattle.costing.specs.Arc.{once}
+use Rattle.base.proofs.StoreLaws.{written-more}
+use Rattle.steps.specs.Payment.{rounded, once}
 use Rattle.streams.specs.Streams.{Left}
-use Rattle.streams.proofs.FillLaws.{once-zero, once-suc, once-fits, stream-next, left-next}
+use Rattle.streams.proofs.FillLaws.{once-zero, once-suc, once-fits, left-next}
 use Rattle.streams.proofs.filling.stream.Statement.{statement}
 use Rattle.streams.proofs.filling.stream.Tie as tie
 
@@ -31,7 +31,8 @@ loop-again c =
       omega arith,
       once-suc _ _ _ _ (h .1) (c .plain .ensures),
       length-set (loop .streams) (s .at + loop .year) (loop .value .0) ∙ h .2,
-      stream-next (loop .streams) (s .at) (loop .year) (λ y. rounded (s .discount .by) (once (s .amount) (s .grow) y)) (h .3) (h .1) (omega arith),
+      written-more (λ y. s .at + y) (λ y. rounded (s .discount .by) (once (s .amount) (s .grow) y)) (λ y. y < loop .year) (λ y. y < loop .year + 1)
+          (loop .streams) (loop .year) (omega arith) (h .1) (λ y d q. d (omega arith)) (λ y l d. omega arith) (h .3),
       left-next (loop .streams) (now (s .streams)) (s .at) (loop .year) (loop .value .0) (h .4),
     )
 

@@ -9,8 +9,8 @@ use Rattle.sheet.specs.Sheet.{PlanningSheet}
 use Rattle.sheet.specs.Parsed.{parsed}
 use Rattle.sheet.specs.declared.Sheet.{Sheet}
 use Rattle.sheet.proofs.ParsedLaws.{horizon-read}
-use Rattle.tails.specs.Words.{WordsHeld}
-use Rattle.tails.proofs.WordLaws.{wordsFrom, words-last, words-two, words-all, words-length, words-read}
+use Rattle.tails.specs.Words.{firstsStart, WordsHeld, wordsFrom}
+use Rattle.tails.proofs.WordLaws.{words-last, words-all, words-length, words-read, words-two}
 use Rattle.tails.proofs.words.fill.Statement.{statement}
 use Rattle.tails.proofs.words.fill.Tie as tie
 
@@ -18,7 +18,7 @@ abbrev Inv-loop : tie.InvT-loop
 Inv-loop words₀ streams ages sheet discount horizon y₀ words y =
     (y ≤ horizon)
     × ((p : PlanningSheet) → sheet ≡ parsed p
-    → (ws : List ℕ) → words₀ ≡ set (set ws (p .horizon) 0) (301 + p .horizon) 0 → words ≡ wordsFrom p (p .horizon - y) ws)
+    → (ws : List ℕ) → words₀ ≡ set (set ws (p .horizon) 0) (firstsStart + p .horizon) 0 → words ≡ wordsFrom p (p .horizon - y) ws)
 
 abbrev μ-loop : tie.MeasureT-loop
 μ-loop words₀ streams ages sheet discount horizon y₀ words y = y
@@ -37,15 +37,15 @@ words-are :
     (c : tie.At-loop Inv-loop μ-loop) (p : PlanningSheet) → sheet c ≡ parsed p
     → c .loop .words ≡ wordsFrom p (p .horizon - c .loop .y) (entry c)
 words-are c p read =
-    c .loop .inv .1 p read (entry c) (ap (λ (t : ℕ). set (set (entry c) t 0) (301 + t) 0) (horizon-read (sheet c) p read))
+    c .loop .inv .1 p read (entry c) (ap (λ (t : ℕ). set (set (entry c) t 0) (firstsStart + t) 0) (horizon-read (sheet c) p read))
 
 long : (c : tie.At-loop Inv-loop μ-loop) → length (c .loop .words) ≡ length (entry c)
 long c =
-    let some = start c .pre .0 .1 in
-    ap length (words-are c (some .0) (some .1)) ∙ words-length (some .0) (entry c) (some .0 .horizon - c .loop .y)
+    let some = start c .pre .0 .0 in
+    ap length (words-are c (some .sheet) (some .read)) ∙ words-length (some .sheet) (entry c) (some .sheet .horizon - c .loop .y)
 
 short : (s : tie.Start Inv-loop μ-loop) → s .args .sheet .horizon ≤ 300
-short s = s .pre .0 .0 .horizonHigh
+short s = s .pre .0 .0 .fit .horizonHigh
 
 -- those of the years reached are the totals of the table
 held : (c : tie.At-loop Inv-loop μ-loop) (p : PlanningSheet) → sheet c ≡ parsed p → WordsHeld p (c .loop .y) (c .loop .words)

@@ -3,16 +3,16 @@ use mathlib.Core.Path.{ap}
 use native.Mathlib.Omega.{arith}
 use lib.ListN.{length-set}
 use denote.Ref.{now}
-use Rattle.tails.specs.Best.{withBest}
-use Rattle.tails.specs.declared.Best.{Best}
 use borrow.Author.Needs.{needs}
+use Rattle.weighing.specs.declared.Best.{Best}
+use Rattle.tails.specs.Words.{withBest}
 use Rattle.tails.proofs.words.word.Statement.{statement}
 use Rattle.tails.proofs.words.word.Tie as tie
 
 best-of-requires : tie.Need-best-of-requires
 best-of-requires c κs =
     let s = c .before .before .before in
-    (s .pre .0, (s .pre .1 .0, (omega (arith, s .pre .1 .0, s .pre .1 .1 .0), s .pre .1 .1 .1)))
+    s .pre .0
 
 mul-words : tie.Need-mul-words
 mul-words c = search needs
@@ -29,7 +29,7 @@ mul-words-2 c = search needs
 slice-write-words-2 : tie.Need-slice-write-words-2
 slice-write-words-2 c =
     let s = c .before .before .before .before in
-    simp length-set (omega (arith, s .pre .1 .0, s .pre .1 .1 .0))
+    simp length-set (omega (arith, s .pre .0 .1 .early, s .pre .0 .1 .far, s .pre .1))
 
 same-length : tie.Need-same-length
 same-length c = search needs

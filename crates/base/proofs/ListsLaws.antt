@@ -1,0 +1,44 @@
+-- Laws of `Lists.antt`, for lists of anything. In order:
+--     every-map      what follows for each member follows for every member of a list
+--     every-append      what holds of every member of two lists holds of every member of both together
+--     sumOf-append, sumOf-cons, sumOf-one, sumOf-two      the sum over two lists together, over a member and the rest, over one and over two
+--     getD-listed      what stands at an index of a list that is given by its index
+-- Assumes nothing.
+use Prim.Native.Nat.{ℕ, _+_, zero, suc, _<_}
+use mathlib.Core.Path.{_≡_, refl}
+use mathlib.Core.List.{List, [], _∷_, _++_}
+use native.Mathlib.Nat.{add-zero, le-of-suc-le-suc, not-suc-le-zero}
+use native.Mathlib.Omega.{arith}
+use lib.ListN.{getD}
+use Rattle.base.specs.Lists.{Every, sumOf, listed}
+
+pub every-map : {A : Type 0} (S R : A → Type 0) → ((x : A) → S x → R x) → (xs : List A) → Every S xs → Every R xs
+every-map S R f [] h = tt
+every-map S R f (x ∷ xs) h = (f x (h .0), every-map S R f xs (h .1))
+
+pub every-append : {A : Type 0} (S : A → Type 0) (xs ys : List A) → Every S xs → Every S ys → Every S (xs ++ ys)
+every-append S [] ys h k = k
+every-append S (x ∷ xs) ys h k = (h .0, every-append S xs ys (h .1) k)
+
+module _ {A : Type 0} (φ : A → ℕ) where
+  pub sumOf-append : (xs ys : List A) → sumOf φ (xs ++ ys) ≡ sumOf φ xs + sumOf φ ys
+  unfolding sumOf
+  sumOf-append [] ys = omega arith
+  sumOf-append (x ∷ xs) ys = rw (sumOf-append xs ys) (omega arith)
+
+  pub sumOf-cons : (x : A) (xs : List A) → sumOf φ (x ∷ xs) ≡ φ x + sumOf φ xs
+  unfolding sumOf
+  sumOf-cons x xs = refl
+
+  pub sumOf-one : (x : A) → sumOf φ (x ∷ []) ≡ φ x
+  unfolding sumOf
+  sumOf-one x = add-zero (φ x)
+
+  pub sumOf-two : (x y : A) → sumOf φ (x ∷ y ∷ []) ≡ φ x + φ y
+  unfolding sumOf
+  sumOf-two x y = omega arith
+
+pub getD-listed : {A : Type 0} (n : ℕ) (f : ℕ → A) (j : ℕ) (other : A) → j < n → getD (listed n f) j other ≡ f j
+getD-listed zero f j other h = absurd (not-suc-le-zero h)
+getD-listed (suc n) f zero other h = refl
+getD-listed (suc n) f (suc j) other h = getD-listed n (λ i. f (suc i)) j other (le-of-suc-le-suc h)

@@ -1,0 +1,36 @@
+-- Document 01's cases 1 to 12, and further cases of planning, evaluated from the definitions that the contracts cite. Assumes nothing.
+use mathlib.Core.Path.{refl}
+use Rattle.base.specs.Lists.{sumOf}
+use Rattle.base.specs.Numbers.{u16At, u32At, i32At, bytesOf}
+use Rattle.base.specs.Answer.{_unless_else_, firstBelow}
+use Rattle.base.specs.Cases.{AllHold}
+use Rattle.sheet.specs.Sheet.{expenseAt, onceAt, optionAt, sheetOf, factor}
+use Rattle.sheet.specs.Parsed.{flowOf, overhaulsOf, termsOf}
+use Rattle.checking.specs.Refusals.{inflationOk, inflationsOk, ageingOk, ageingsOk, ageBefore, overhaulOk, headerNumber, fieldsNumber, overhaulAnswer, optionAnswer, checked}
+use Rattle.steps.specs.Step.{divided, plain, inService, repeated}
+use Rattle.steps.specs.Payment.{rounded, once}
+use Rattle.costing.specs.Arc.{arcOf, inYear, investment, maintenance, electricity, ageOf, overhaul, forEach, paidIf, overhaulsBelow, paid, payments, cost}
+use Rattle.costing.specs.Offered.{offered}
+use Rattle.costing.specs.Costing.{costing, costed}
+use Rattle.choice.specs.Running.{weigh, overEnds}
+use Rattle.choice.specs.Table.{table, entry}
+use Rattle.chain.specs.PlanBytes.{endBytes, header, encode}
+use Rattle.tails.specs.Tail.{bestEnd, tailFrom}
+use Rattle.tails.specs.Words.{tails, tailWords}
+use Rattle.front.specs.Planned.{renovated, planned}
+use Rattle.planning.specs.Planning.{planning, planAnswer, planAfter, wordsAfter}
+use Rattle.planning.specs.Cases.{casesOneToTwelve, casesOfPlanning}
+
+-- both lists at once, by the same definitions
+cases-hold : AllHold casesOneToTwelve × AllHold casesOfPlanning
+unfolding u16At u32At i32At expenseAt onceAt optionAt sheetOf factor flowOf overhaulsOf termsOf _unless_else_ firstBelow inflationOk inflationsOk ageingOk ageingsOk ageBefore overhaulOk headerNumber fieldsNumber overhaulAnswer optionAnswer checked sumOf divided plain inService repeated rounded arcOf once inYear investment maintenance electricity ageOf overhaul forEach paidIf overhaulsBelow paid payments cost offered costing costed bytesOf endBytes header encode weigh overEnds table entry bestEnd tailFrom renovated planned planning planAnswer planAfter wordsAfter tailWords tails
+cases-hold = (
+  (refl, (refl, (refl, (refl, (refl, (refl, (refl, (refl, (refl, (refl, (refl, (refl, tt)))))))))))),
+  (refl, (refl, (refl, (refl, (refl, (refl, (refl, (refl, (refl, (refl, (refl, (refl, tt)))))))))))),
+)
+
+pub twelve-cases-hold : AllHold casesOneToTwelve
+twelve-cases-hold = cases-hold .0
+
+pub planning-cases-hold : AllHold casesOfPlanning
+planning-cases-hold = cases-hold .1

@@ -1,0 +1,1 @@
+// What planning answers and leaves: definitions, their laws and evaluated cases. There is no code here.

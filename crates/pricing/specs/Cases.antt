@@ -1,0 +1,33 @@
+-- Plans priced: the plans of document 01's cases 11 and 12, with the totals it gives them, other chains of case 12's sheet, worked out by
+-- hand from the rules, and plans that are refused. The bytes are written out, not encoded. Definitions only.
+use Prim.Native.Nat.{ℕ}
+use mathlib.Core.List.{List, [], _∷_, _++_}
+use Rattle.base.specs.Answer.{accepted, refused}
+use Rattle.base.specs.Cases.{Case}
+use Rattle.base.specs.declared.Answer.{Answer}
+use Rattle.costing.specs.CaseSheets.{sheet11, sheet12}
+use Rattle.chain.specs.CasePlans.{replacing}
+use Rattle.pricing.specs.Pricing.{priced}
+
+abbrev pub pricedCase : (sheet plan : List ℕ) (units : ℕ) → Case
+pricedCase sheet plan units = record { Figure = Answer; given = priced sheet plan; expected = accepted units }
+
+abbrev pub refusedCase : (sheet plan : List ℕ) → Case
+refusedCase sheet plan = record { Figure = Answer; given = priced sheet plan; expected = refused 14 3 }
+
+abbrev pub casesOfPricing : List Case
+casesOfPricing =
+    -- ends 2, 3, total 30,000, whatever the total field says; ends 2, 4, total 240,000
+    pricedCase sheet11 (replacing 0 (2 ∷ 3 ∷ [])) 30_000
+    ∷ pricedCase sheet11 (replacing 255 (2 ∷ 3 ∷ [])) 30_000
+    ∷ pricedCase sheet12 (replacing 0 (2 ∷ 4 ∷ [])) 240_000
+    -- not least: four times 10 and 1; and 10, 3 and 15, then 10 and 1
+    ∷ pricedCase sheet12 (replacing 0 (1 ∷ 2 ∷ 3 ∷ 4 ∷ [])) 440_000
+    ∷ pricedCase sheet12 (replacing 0 (3 ∷ 4 ∷ [])) 390_000
+    -- it stops before T, or goes past it; two ends are equal; a life of longest + 1; a byte behind the plan
+    ∷ refusedCase sheet12 (replacing 0 (2 ∷ 3 ∷ []))
+    ∷ refusedCase sheet12 (replacing 0 (2 ∷ 5 ∷ []))
+    ∷ refusedCase sheet12 (replacing 0 (2 ∷ 2 ∷ 4 ∷ []))
+    ∷ refusedCase sheet12 (replacing 0 (4 ∷ []))
+    ∷ refusedCase sheet12 (replacing 0 (2 ∷ 4 ∷ []) ++ (0 ∷ []))
+    ∷ []

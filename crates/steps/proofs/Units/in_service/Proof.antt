@@ -1,0 +1,32 @@
+-- A step in service: both products fit in 64 bits, the second by what the first division gives. Assumes nothing.
+use Prim.Native.Nat.{ℕ, _*_}
+use mathlib.Core.Path.{ap, _∙_}
+use native.Mathlib.Omega.{arith}
+use Rattle.steps.specs.Step.{divided, plain, inService}
+use Rattle.steps.proofs.RoomLaws.{age-room, aged-fits}
+use Rattle.steps.proofs.Units.in_service.Statement.{statement}
+use Rattle.steps.proofs.Units.in_service.Tie as tie
+
+returns : tie.Need-returns
+unfolding inService plain
+returns c =
+    let a = c .before .before .before .args in
+    c .nearest-by .ensures ∙ ap (λ (aged : ℕ). divided (aged * a .grow) (a .discount .by)) (c .before .nearest .ensures)
+
+mul-nearest : tie.Need-mul-nearest
+mul-nearest c = omega (arith, age-room _ _ _ _ (c .before .pre .0))
+
+nearest-requires : tie.Need-nearest-requires
+nearest-requires c κs = (omega arith, omega arith, omega (arith, age-room _ _ _ _ (c .before .pre .0)))
+
+mul-nearest-by : tie.Need-mul-nearest-by
+mul-nearest-by c = rw (c .nearest .ensures) (omega (arith, aged-fits _ _ _ _ (c .before .before .pre .0)))
+
+nearest-by-requires : tie.Need-nearest-by-requires
+nearest-by-requires c κs =
+    let s = c .before .before .pre in
+    rw (c .nearest .ensures) (s .1, omega (arith, aged-fits _ _ _ _ (s .0)))
+
+pub in-service-spec : {M : Type 1} → statement M
+in-service-spec =
+    tie.close (tie.spec mul-nearest nearest-requires mul-nearest-by nearest-by-requires returns)

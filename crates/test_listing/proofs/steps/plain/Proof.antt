@@ -1,0 +1,34 @@
+-- Each turn takes a step, and the years end. Assumes nothing.
+use Prim.Native.Nat.{_≤_, _-_}
+use borrow.Author.Needs.{needs}
+use Rattle.test_listing.proofs.steps.plain.Statement.{statement}
+use Rattle.test_listing.proofs.steps.plain.Tie as tie
+
+abbrev Inv-loop : tie.InvT-loop
+Inv-loop amount growth rate years a₀ counter₀ a counter = counter ≤ years
+
+abbrev μ-loop : tie.MeasureT-loop
+μ-loop amount growth rate years a₀ counter₀ a counter = years - counter
+
+loop-holds : tie.Need-loop-holds Inv-loop μ-loop
+loop-holds c = search needs
+
+nearest-requires : tie.Need-nearest-requires Inv-loop μ-loop
+nearest-requires c κs = search needs
+
+add-counter : tie.Need-add-counter Inv-loop μ-loop
+add-counter c = search needs
+
+loop-less : tie.Need-loop-less Inv-loop μ-loop
+loop-less c = search needs
+
+loop-again : tie.Need-loop-again Inv-loop μ-loop
+loop-again c = search needs
+
+returns : tie.Need-returns Inv-loop μ-loop
+returns c = search needs
+
+pub plain-spec : {M : Type 1} → statement M
+plain-spec =
+    tie.close
+    (tie.spec Inv-loop μ-loop loop-holds nearest-requires add-counter loop-less loop-again returns)

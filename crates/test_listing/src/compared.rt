@@ -1,0 +1,106 @@
+// One sheet planned and listed, and the two compared.
+
+use crate::expected;
+use crate::figures::Figures;
+use crate::listing::Best;
+use crate::listing::chains;
+use crate::numbers::plus;
+use crate::show::differs;
+use crate::written::sheet;
+use base::Answer;
+
+// How many sheets were compared, how many of them had a feasible chain and how many none, on how many several chains had the least total, how
+// many chains were listed, and how many differences there were.
+pub struct Tally {
+    pub sheets: u64,
+    pub feasible: u64,
+    pub refused: u64,
+    pub ties: u64,
+    pub chains: u64,
+    pub differences: u64,
+}
+
+impl Tally {
+    pub fn new() -> Tally {
+        Tally {
+            sheets: 0,
+            feasible: 0,
+            refused: 0,
+            ties: 0,
+            chains: 0,
+            differences: 0,
+        }
+    }
+
+    fn with(self, best: Best, differences: u64) -> Tally {
+        let feasible = best.listed != 0;
+        let tied = 1 < best.sharing;
+        Tally {
+            sheets: plus(self.sheets, 1),
+            feasible: plus(self.feasible, if feasible { 1 } else { 0 }),
+            refused: plus(self.refused, if feasible { 0 } else { 1 }),
+            ties: plus(self.ties, if tied { 1 } else { 0 }),
+            chains: plus(self.chains, best.listed),
+            differences: plus(self.differences, differences),
+        }
+    }
+}
+
+// What `plan` answers and writes.
+struct Outcome {
+    answer: Answer,
+    plan: [u8; 278],
+    words: [u64; 602],
+}
+
+fn planned(sheet: [u8; 278]) -> Outcome {
+    let mut plan = [expected::LEFT; 278];
+    let mut words = [expected::LEFT as u64; 602];
+    let answer = planner::plan(&sheet, &mut plan, &mut words);
+    Outcome {
+        answer: answer,
+        plan: plan,
+        words: words,
+    }
+}
+
+fn same_bytes(a: [u8; 278], b: [u8; 278]) -> bool {
+    for k in 0..278 {
+        if a[k] != b[k] {
+            return false;
+        }
+    }
+    true
+}
+
+fn same_words(a: [u64; 602], b: [u64; 602]) -> bool {
+    for k in 0..602 {
+        if a[k] != b[k] {
+            return false;
+        }
+    }
+    true
+}
+
+// 0 where a chain is feasible, and 11 where none is.
+fn number_of(best: Best) -> u8 {
+    if best.listed == 0 { 11 } else { 0 }
+}
+
+fn answer_differs(number: u64, a: Answer, best: Best) -> u64 {
+    let refusal = differs(number, b"number", a.number == number_of(best));
+    let option = differs(number, b"option", a.option == 3);
+    let total = differs(number, b"total", a.total == best.total);
+    plus(plus(refusal, option), total)
+}
+
+pub fn compare(tally: Tally, number: u64, f: Figures) -> Tally {
+    let best = chains(f);
+    let p = planned(sheet(f));
+    let bytes = p.plan;
+    let lent = p.words;
+    let answer = answer_differs(number, p.answer, best);
+    let plan = differs(number, b"plan", same_bytes(bytes, expected::plan(best)));
+    let words = differs(number, b"words", same_words(lent, expected::words(f)));
+    tally.with(best, plus(answer, plus(plan, words)))
+}

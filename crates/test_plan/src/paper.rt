@@ -1,0 +1,24 @@
+// The paper's case study: replacements of 60 years from 0, 3,897,920 euros in Tables 5 and 6; and its sheet with replace not offered.
+
+use crate::planned::amply;
+use crate::planned::in_buffers;
+use crate::show::priced;
+use test_sheets::REPLACE_AT;
+use test_sheets::lives;
+use test_sheets::paper::sheet;
+
+// Its five replacements fill 29 bytes, so the whole buffer is the plan that is priced.
+pub fn replacements() {
+    let s = sheet();
+    let mut plan = [0u8; 29];
+    let mut words = [0u64; 602];
+    in_buffers(b"paper", &s, &mut plan, &mut words);
+    let a = pricing::price(&s, &plan);
+    priced(a);
+}
+
+// Maintaining for 15 years and renovating for 30 ends in year 45, of 300.
+pub fn none() {
+    let s = lives(sheet(), REPLACE_AT, 0, 0);
+    amply(b"paper, replace not offered", &s);
+}

@@ -1,0 +1,92 @@
+// The words that `plan` lends, a line a year: document 01's cases 9 to 12; the paper's case study, and its sheet with replace not offered.
+
+use crate::show::heading;
+use crate::show::kept;
+use crate::show::year;
+use test_sheets::REPLACE_AT;
+use test_sheets::document;
+use test_sheets::lives;
+use test_sheets::paper::sheet;
+
+// The words after planning; they hold 7 before.
+fn lent(sheet: &[u8]) -> [u64; 602] {
+    let mut plan = [0u8; 619];
+    let mut words = [7u64; 602];
+    planner::plan(sheet, &mut plan, &mut words);
+    words
+}
+
+// Years that every case has.
+fn years_0_to_3(words: [u64; 602]) {
+    year(words, 0);
+    year(words, 1);
+    year(words, 2);
+    year(words, 3);
+}
+
+// No replacements lead from 0 to T.
+fn case_9() {
+    let sheet = document::case_9();
+    let words = lent(&sheet);
+    heading(b"case 9, words");
+    years_0_to_3(words);
+    year(words, 4);
+    year(words, 5);
+}
+
+// Equal totals, so the later end first.
+fn case_10() {
+    let sheet = document::case_10();
+    let words = lent(&sheet);
+    heading(b"case 10, words");
+    years_0_to_3(words);
+    year(words, 4);
+    year(words, 5);
+    year(words, 6);
+    year(words, 7);
+}
+
+// Words past T keep their content.
+fn case_11() {
+    let sheet = document::case_11();
+    let words = lent(&sheet);
+    heading(b"case 11, words");
+    years_0_to_3(words);
+    kept(words);
+}
+
+fn case_12() {
+    let sheet = document::case_12();
+    let words = lent(&sheet);
+    heading(b"case 12, words");
+    years_0_to_3(words);
+    year(words, 4);
+}
+
+pub fn cases() {
+    case_9();
+    case_10();
+    case_11();
+    case_12();
+}
+
+pub fn replacements() {
+    let s = sheet();
+    let words = lent(&s);
+    heading(b"paper, words");
+    year(words, 0);
+    year(words, 60);
+    year(words, 120);
+    year(words, 180);
+    year(words, 240);
+    year(words, 299);
+    year(words, 300);
+}
+
+pub fn none() {
+    let s = lives(sheet(), REPLACE_AT, 0, 0);
+    let words = lent(&s);
+    heading(b"paper, replace not offered, words");
+    year(words, 299);
+    year(words, 300);
+}
