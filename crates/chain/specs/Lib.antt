@@ -1,5 +1,11 @@
--- The definitions of chain, in reading order: chains, the one that is chosen, chains as lists of years, how far a total may lie from the exact value, the bytes of a
--- plan, what pricing's code of a total asks, and the bytes of plans for the cases.
+-- The definitions of chain, in reading order.
+--     Chain: chains, which of them are feasible, totals and exact values
+--     ChosenChain: the chain that is chosen
+--     Years: chains as lists of years
+--     Error: how far a total may lie from the exact value
+--     PlanBytes: the bytes of a plan, written and read
+--     Ordered: what pricing's code of a total asks
+--     CasePlans: the bytes of plans for the cases
 pub mod Chain
 pub mod ChosenChain
 pub mod Years

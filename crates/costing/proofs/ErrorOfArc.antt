@@ -33,10 +33,10 @@ module _ (S : Payment → Type 0) where
   every-forEach zero f h = tt
   every-forEach (suc n) f h = every-append S (forEach n f) (f n) (every-forEach n f (λ j l. h j (omega arith))) (h n (omega arith))
 
-  every-when : (test : Bool) (p : Payment) → (test ≡ true → S p) → Every S (paidIf test p)
+  every-paidIf : (test : Bool) (p : Payment) → (test ≡ true → S p) → Every S (paidIf test p)
   unfolding paidIf
-  every-when true p h = (h refl, tt)
-  every-when false p h = tt
+  every-paidIf true p h = (h refl, tt)
+  every-paidIf false p h = tt
 
 module _ (horizon discount : ℕ) (positive : 0 < discount) where
   once-sound : (amount grow y : ℕ) → grow ≤ discount → y ≤ horizon → Sound horizon discount (once amount grow y)
@@ -61,7 +61,7 @@ module _ (horizon : ℕ) (k : Kept) (ok : KeptFits k) where
   unfolding overhaulsBelow overhaul
   overhauls-sound n h =
       every-forEach _ (k .terms .overhauls .count) _ (λ j l.
-      every-when _ (ltb (ageOf k j) n) _ (λ t.
+      every-paidIf _ (ltb (ageOf k j) n) _ (λ t.
       let younger = ltb-true (ageOf k j) n t in
       once-sound horizon (k .discount) discount-positive _ _ _ (ok .terms .overhauls .grow .high) (omega arith)))
 

@@ -11,9 +11,11 @@ use Rattle.base.proofs.TestLaws.{by-test, leb-iff, eqb-iff, both-iff, either-if
 use Rattle.sheet.specs.Sheet.{PlanningSheet}
 use Rattle.sheet.specs.Parsed.{termsOf}
 use Rattle.sheet.specs.declared.Terms.{Terms}
-use Rattle.costing.specs.Offered.{placed, lengthOffered, offered, Placed, Offered}
+use Rattle.costing.specs.Offered.{placed, lengthOffered, offered, Offered}
 
-pub placed-iff : (horizon option start end : ℕ) → (placed horizon option start end ≡ true) ↔ Placed horizon option start end
+pub placed-iff :
+    (horizon option start end : ℕ)
+    → (placed horizon option start end ≡ true) ↔ ((((option ≤ 2) × (end ≤ horizon)) × (start ≤ end)) × ((1 ≤ option) ⊎ (start ≡ 0)))
 placed-iff horizon option start end =
     both-iff (both-iff (both-iff (leb-iff option 2) (leb-iff end horizon)) (leb-iff start end))
     (either-iff (leb-iff 1 option) (eqb-iff start 0))

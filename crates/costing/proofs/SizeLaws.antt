@@ -41,9 +41,9 @@ inYear-fits discount w t k low high h few =
       product = h .product;
     }
 
-when-le : (φ : Payment → ℕ) (holds : Bool) (p : Payment) → sumOf φ (paidIf holds p) ≤ φ p
-when-le φ true p = rw (Sum.paidIf-true φ p) (omega arith)
-when-le φ false p = rw (Sum.paidIf-false φ p) (omega arith)
+paidIf-le : (φ : Payment → ℕ) (holds : Bool) (p : Payment) → sumOf φ (paidIf holds p) ≤ φ p
+paidIf-le φ true p = rw (Sum.paidIf-true φ p) (omega arith)
+paidIf-le φ false p = rw (Sum.paidIf-false φ p) (omega arith)
 
 forEach-le :
     (φ : Payment → ℕ) (b n : ℕ) (f : ℕ → List Payment) → ((j : ℕ) → j < n → sumOf φ (f j) ≤ b) → sumOf φ (forEach n f) ≤ n * b
@@ -71,7 +71,7 @@ module _ (a : Kept) (h : KeptFits a) where
       → worth a (forEach k (atAge a n)) ≤ k * largestPayment
   overhauls-le n k l =
       forEach-le (rounded (a .discount)) largestPayment k _
-      (λ j m. le-trans (when-le (rounded (a .discount)) (eqb (ageOf a j) n) (overhaul a j)) (overhaul-le j (omega arith)))
+      (λ j m. le-trans (paidIf-le (rounded (a .discount)) (eqb (ageOf a j) n) (overhaul a j)) (overhaul-le j (omega arith)))
 
   added-le : (n : ℕ) → n < 300 → worth a (added a n) ≤ 10 * largestPayment
   unfolding overhaulsAt maintenance electricity

@@ -24,10 +24,6 @@ offered p option start end =
 abbrev pub LengthOffered : (shortest longest option n : ℕ) → Type 0
 LengthOffered shortest longest option n = ((1 ≤ n) × (shortest ≤ n) × (n ≤ longest)) ⊎ ((n ≡ 0) × (option ≤ 1))
 
--- what `placed` tests
-abbrev pub Placed : (horizon option start end : ℕ) → Type 0
-Placed horizon option start end = (((option ≤ 2) × (end ≤ horizon)) × (start ≤ end)) × ((1 ≤ option) ⊎ (start ≡ 0))
-
 pub record Offered (p : PlanningSheet) (option start end : ℕ) : Type 0 where
   pub known : option ≤ 2
   pub inside : end ≤ p .horizon

@@ -118,10 +118,10 @@ module _ (p : PlanningSheet) where
     pub words-again :
         p .horizon ≤ 300 → wordsNeeded ≤ length words → (y : ℕ) → y ≤ p .horizon → (l : List ℕ) → l ≡ wordsFrom p (p .horizon - y) words
         → withYear p y l ≡ wordsFrom p (p .horizon - y) words
-    words-again far room y early l wordsWritten =
+    words-again far room y early l written =
         let read = words-read far room y y (omega arith) early in
         let w = wordsFrom p (p .horizon - y) words in
-        rw wordsWritten
+        rw written
         (ap (λ (l : List ℕ). set l (firstsStart + y) (firstEnd (tailFrom p y))) (ap (set w y) (sym (read .0)) ∙ set-getD w y 0)
         ∙ ap (set w (firstsStart + y)) (sym (read .1)) ∙ set-getD w (firstsStart + y) 0)
 
@@ -129,10 +129,10 @@ module _ (p : PlanningSheet) where
     pub words-two :
         p .horizon ≤ 300 → wordsNeeded ≤ length words → (y : ℕ) → 0 < y → y ≤ p .horizon → (l : List ℕ) → l ≡ wordsFrom p (p .horizon - y) words
         → withYear p (y - 1 - 1) (withYear p (y - 1) l) ≡ wordsFrom p (p .horizon - (y - 1 - 1)) words
-    words-two far room y some early l wordsWritten =
+    words-two far room y some early l written =
         let same : p .horizon - y ≡ p .horizon - (y - 1 + 1) = omega arith in
         let first =
-        words-next (y - 1) (omega arith) l (wordsWritten ∙ ap (λ (n : ℕ). wordsFrom p n words) same) in
+        words-next (y - 1) (omega arith) l (written ∙ ap (λ (n : ℕ). wordsFrom p n words) same) in
         ⊎-elim {A = 1 ≡ y} {B = 1 < y}
         (λ q.
         let once : y - 1 - 1 ≡ y - 1 = omega arith in
