@@ -230,29 +230,30 @@ static void print_arc(unsigned option, uint16_t start, uint16_t end,
     putchar('\n');
 }
 
-/* Arc k of a plan runs from border k to border k + 1. */
-static uint16_t border(const struct nimovalsa_plan *plan, unsigned k)
+/* Arc k of a chain runs from border k to border k + 1. */
+static uint16_t border(const struct nimovalsa_chain *chain, unsigned k)
 {
     if (k < 3) {
-        const uint16_t first[] = {0, plan->i, plan->j};
+        const uint16_t first[] = {0, chain->i, chain->j};
 
         return first[k];
     }
-    return plan->ends[k - 3];
+    return chain->ends[k - 3];
 }
 
 /*
- * Prints the arcs of a plan, but those of no years, which cost nothing, and its
- * total. Each line is rounded to cents by itself; in units the arcs must add up
- * to the total.
+ * Prints the arcs of a chain, but those of no years, which cost nothing, and
+ * its total. Each line is rounded to cents by itself; in units the arcs must
+ * add up to the total.
  */
-static bool show_chain(const uint8_t *sheet, const struct nimovalsa_plan *plan)
+static bool show_chain(const uint8_t *sheet,
+                       const struct nimovalsa_chain *chain)
 {
     uint64_t sum = 0;
 
-    for (unsigned k = 0; k < plan->count + 2u; k++) {
+    for (unsigned k = 0; k < chain->count + 2u; k++) {
         unsigned option = k < NIMOVALSA_REPLACE ? k : NIMOVALSA_REPLACE;
-        uint16_t start = border(plan, k), end = border(plan, k + 1);
+        uint16_t start = border(chain, k), end = border(chain, k + 1);
         uint64_t answer =
             nimovalsa_cost(sheet, NIMOVALSA_SHEET_BYTES, option, start, end);
 
@@ -264,28 +265,28 @@ static bool show_chain(const uint8_t *sheet, const struct nimovalsa_plan *plan)
             print_arc(option, start, end, nimovalsa_total(answer));
         sum += nimovalsa_total(answer);
     }
-    print_amount("least total", plan->total);
+    print_amount("least total", chain->total);
     putchar('\n');
-    return sum == plan->total || fault("the arcs do not add up to the total");
+    return sum == chain->total || fault("the arcs do not add up to the total");
 }
 
 /* The last replacement is given up at the horizon, however young it is. */
-static struct nimovalsa_plan chain_of(const struct habit *habit,
-                                      uint16_t horizon)
+static struct nimovalsa_chain chain_of(const struct habit *habit,
+                                       uint16_t horizon)
 {
-    struct nimovalsa_plan plan = {
+    struct nimovalsa_chain chain = {
         .i = habit->maintain,
         .j = (uint16_t)(habit->maintain + habit->renovate),
     };
-    unsigned end = plan.j;
+    unsigned end = chain.j;
 
-    while (end < horizon && plan.count < NIMOVALSA_LONGEST_HORIZON) {
+    while (end < horizon && chain.count < NIMOVALSA_LONGEST_HORIZON) {
         end += habit->replace;
         if (end > horizon)
             end = horizon;
-        plan.ends[plan.count++] = (uint16_t)end;
+        chain.ends[chain.count++] = (uint16_t)end;
     }
-    return plan;
+    return chain;
 }
 
 /* What a habit costs more than the plan; it cannot cost less. */
@@ -309,9 +310,9 @@ static bool show_habit(const uint8_t *sheet, const struct asset *asset,
                        uint64_t least)
 {
     const struct habit *habit = &asset->habit;
-    struct nimovalsa_plan plan = chain_of(habit, asset->horizon);
+    struct nimovalsa_chain chain = chain_of(habit, asset->horizon);
     uint8_t bytes[PLAN_BYTES];
-    size_t length = nimovalsa_plan_encode(&plan, bytes, sizeof bytes);
+    size_t length = nimovalsa_plan_encode(&chain, bytes, sizeof bytes);
     uint64_t answer =
         nimovalsa_price(sheet, NIMOVALSA_SHEET_BYTES, bytes, length);
 
@@ -328,7 +329,7 @@ static bool show_plan(const uint8_t *sheet, const struct asset *asset)
 {
     uint64_t words[NIMOVALSA_PLAN_WORDS];
     uint8_t bytes[PLAN_BYTES];
-    struct nimovalsa_plan plan;
+    struct nimovalsa_chain chain;
     uint64_t answer =
         nimovalsa_plan(sheet, NIMOVALSA_SHEET_BYTES, bytes, sizeof bytes, words,
                        NIMOVALSA_PLAN_WORDS);
@@ -337,9 +338,9 @@ static bool show_plan(const uint8_t *sheet, const struct asset *asset)
         print_refusal("planning", answer);
         return nimovalsa_number(answer) == 11 || fault("planning is refused");
     }
-    if (!nimovalsa_plan_decode(bytes, sizeof bytes, &plan))
+    if (!nimovalsa_plan_decode(bytes, sizeof bytes, &chain))
         return fault("a plan cannot be read");
-    return show_chain(sheet, &plan) && show_habit(sheet, asset, plan.total);
+    return show_chain(sheet, &chain) && show_habit(sheet, asset, chain.total);
 }
 
 static bool show_asset(const struct asset *asset)

@@ -192,9 +192,9 @@ uint64_t nimovalsa_price(const uint8_t *sheet, size_t sheet_length,
  *
  * Buffers: the sheet is only read. What is written depends on the number:
  *
- *   1 to 10   nothing
- *   11, 12    the words
  *   0         the words, and the first 19 + 2m bytes of the plan
+ *   11, 12    the words
+ *   other     nothing
  *
  * The words are written for each year y from 0 to T:
  *

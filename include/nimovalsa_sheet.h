@@ -2,12 +2,9 @@
  * nimovalsa_sheet.h: planning sheets and plans by named fields, for C and C++.
  *
  * nimovalsa.h says what the bytes are and what the library's calls answer.
- * Here a sheet is a struct whose encoder writes those bytes, and a plan is a
- * struct with an encoder and a decoder. The functions use no heap, keep
- * nothing and call no other code.
- *
- * In C++ write struct nimovalsa_plan with its keyword: the call that plans has
- * the same name.
+ * Here a sheet is a struct whose encoder writes those bytes, and a chain is a
+ * struct with an encoder to the bytes of its plan and a decoder from them. The
+ * functions use no heap, keep nothing and call no other code.
  */
 #ifndef NIMOVALSA_SHEET_H
 #define NIMOVALSA_SHEET_H
@@ -66,7 +63,7 @@ struct nimovalsa_sheet {
  * maintain from year 0 to i, renovate from i to j, then count replacements, the
  * first from j to ends[0], each later one from the end before it to its own.
  */
-struct nimovalsa_plan {
+struct nimovalsa_chain {
     uint64_t total;
     uint16_t i;
     uint16_t j;
@@ -158,41 +155,41 @@ static inline void nimovalsa_sheet_encode(const struct nimovalsa_sheet *sheet,
 }
 
 /*
- * Writes the bytes of a plan and answers their number, 19 + 2 count, which is
+ * Writes the plan of a chain and answers how many bytes it has, 19 + 2 count,
  * the plan_length that nimovalsa_price wants. It answers 0 and writes nothing
  * if count is above NIMOVALSA_LONGEST_HORIZON or length, that of the buffer, is
  * too short. Whether the chain is feasible is not looked at: nimovalsa_price
  * refuses one that is not. The bytes behind the plan keep their content.
  */
-static inline size_t nimovalsa_plan_encode(const struct nimovalsa_plan *plan,
+static inline size_t nimovalsa_plan_encode(const struct nimovalsa_chain *chain,
                                            uint8_t *bytes, size_t length)
 {
     uint8_t *at = bytes;
     size_t k;
 
-    if (plan->count > NIMOVALSA_LONGEST_HORIZON ||
-        length < NIMOVALSA_PLAN_BYTES(plan->count))
+    if (chain->count > NIMOVALSA_LONGEST_HORIZON ||
+        length < NIMOVALSA_PLAN_BYTES(chain->count))
         return 0;
     at = nimovalsa_put(at, NIMOVALSA_HEAD_BYTES, NIMOVALSA_PLAN_HEAD);
-    at = nimovalsa_put(at, 8, plan->total);
-    at = nimovalsa_put(at, 2, plan->i);
-    at = nimovalsa_put(at, 2, plan->j);
-    at = nimovalsa_put(at, 2, plan->count);
-    for (k = 0; k < plan->count; k++)
-        at = nimovalsa_put(at, 2, plan->ends[k]);
-    return NIMOVALSA_PLAN_BYTES(plan->count);
+    at = nimovalsa_put(at, 8, chain->total);
+    at = nimovalsa_put(at, 2, chain->i);
+    at = nimovalsa_put(at, 2, chain->j);
+    at = nimovalsa_put(at, 2, chain->count);
+    for (k = 0; k < chain->count; k++)
+        at = nimovalsa_put(at, 2, chain->ends[k]);
+    return NIMOVALSA_PLAN_BYTES(chain->count);
 }
 
 /*
- * Reads the plan at the front of length bytes and answers 1. There may be bytes
- * behind it, as in the buffer that nimovalsa_plan was given; they are not read.
- * It answers 0 and leaves the struct if the mark or version is wrong, the count
- * is above NIMOVALSA_LONGEST_HORIZON, or the bytes end before the plan does. As
- * in encoding, the chain need not be feasible. The ends at or past the count
- * keep their content.
+ * Reads the chain of the plan at the front of length bytes, and answers 1.
+ * There may be bytes behind it, as in the buffer that nimovalsa_plan was given;
+ * they are not read. It answers 0 and leaves the struct if the mark or version
+ * is wrong, the count is above NIMOVALSA_LONGEST_HORIZON, or the bytes end
+ * before the plan does. As in encoding, the chain need not be feasible. The
+ * ends at or past the count keep their content.
  */
 static inline int nimovalsa_plan_decode(const uint8_t *bytes, size_t length,
-                                        struct nimovalsa_plan *plan)
+                                        struct nimovalsa_chain *chain)
 {
     uint16_t count;
     size_t k;
@@ -204,12 +201,12 @@ static inline int nimovalsa_plan_decode(const uint8_t *bytes, size_t length,
     if (count > NIMOVALSA_LONGEST_HORIZON ||
         length < NIMOVALSA_PLAN_BYTES(count))
         return 0;
-    plan->total = nimovalsa_get(bytes + 5, 8);
-    plan->i = nimovalsa_get16(bytes + 13);
-    plan->j = nimovalsa_get16(bytes + 15);
-    plan->count = count;
+    chain->total = nimovalsa_get(bytes + 5, 8);
+    chain->i = nimovalsa_get16(bytes + 13);
+    chain->j = nimovalsa_get16(bytes + 15);
+    chain->count = count;
     for (k = 0; k < count; k++)
-        plan->ends[k] = nimovalsa_get16(bytes + NIMOVALSA_PLAN_BYTES(k));
+        chain->ends[k] = nimovalsa_get16(bytes + NIMOVALSA_PLAN_BYTES(k));
     return 1;
 }
 

@@ -13,9 +13,9 @@
 enum {
     PLAN_BYTES = NIMOVALSA_PLAN_BYTES(NIMOVALSA_LONGEST_HORIZON),
 
-    /* what stands in a plan's struct before its ends, and with all of them */
-    PLAN_FRONT = offsetof(struct nimovalsa_plan, ends),
-    PLAN_FIELDS = PLAN_FRONT + NIMOVALSA_LONGEST_HORIZON * sizeof(uint16_t)
+    /* what stands in a chain's struct before its ends, and with all of them */
+    CHAIN_FRONT = offsetof(struct nimovalsa_chain, ends),
+    CHAIN_FIELDS = CHAIN_FRONT + NIMOVALSA_LONGEST_HORIZON * sizeof(uint16_t)
 };
 
 static unsigned long passed;
@@ -128,14 +128,14 @@ static void encode_unlike_fields(void)
     expect_sheet(&sheet, bytes, "a field is written elsewhere");
 }
 
-static struct nimovalsa_plan plan_of(uint16_t count)
+static struct nimovalsa_chain chain_of(uint16_t count)
 {
-    struct nimovalsa_plan plan = {
+    struct nimovalsa_chain chain = {
         .total = 0x1122334455667788, .i = 0x0102, .j = 0x0304, .count = count};
 
     for (unsigned k = 0; k < NIMOVALSA_LONGEST_HORIZON; k++)
-        plan.ends[k] = (uint16_t)(0x0506 + 3 * k);
-    return plan;
+        chain.ends[k] = (uint16_t)(0x0506 + 3 * k);
+    return chain;
 }
 
 /* What is written, byte by byte, and what is left behind it. */
@@ -145,27 +145,27 @@ static void encode_plan(void)
         'R',  'C',  'P',  1,    0,    0x88, 0x77, 0x66, 0x55, 0x44, 0x33, 0x22,
         0x11, 0x02, 0x01, 0x04, 0x03, 2,    0,    0x06, 0x05, 0x09, 0x05, 0xEE,
     };
-    const struct nimovalsa_plan plan = plan_of(2);
+    const struct nimovalsa_chain chain = chain_of(2);
     uint8_t bytes[sizeof want];
 
     memset(bytes, 0xEE, sizeof bytes);
-    expect(nimovalsa_plan_encode(&plan, bytes, sizeof bytes) == 23,
+    expect(nimovalsa_plan_encode(&chain, bytes, sizeof bytes) == 23,
            "the length of a plan is wrong");
     expect(memcmp(bytes, want, sizeof bytes) == 0, "a plan has other bytes");
 }
 
 /* Into a buffer of length bytes: the whole plan, or nothing if it is short. */
-static void try_encode(const struct nimovalsa_plan *plan, const uint8_t *whole,
-                       size_t length)
+static void try_encode(const struct nimovalsa_chain *chain,
+                       const uint8_t *whole, size_t length)
 {
-    const size_t full = NIMOVALSA_PLAN_BYTES(plan->count);
+    const size_t full = NIMOVALSA_PLAN_BYTES(chain->count);
     const size_t written = length < full ? 0 : full;
     uint8_t bytes[PLAN_BYTES + 1], want[PLAN_BYTES + 1];
 
     memset(bytes, 0xEE, sizeof bytes);
     memset(want, 0xEE, sizeof want);
     memcpy(want, whole, written);
-    expect(nimovalsa_plan_encode(plan, bytes, length) == written,
+    expect(nimovalsa_plan_encode(chain, bytes, length) == written,
            "a plan is encoded at another length");
     expect(memcmp(bytes, want, sizeof want) == 0,
            "a plan is written otherwise");
@@ -175,11 +175,11 @@ static void try_encode(const struct nimovalsa_plan *plan, const uint8_t *whole,
  * From the first length bytes: the plan, or nothing if they end before it. They
  * are the end of a heap block, so that valgrind sees whether more is read.
  */
-static void try_decode(const struct nimovalsa_plan *plan, const uint8_t *whole,
-                       size_t length)
+static void try_decode(const struct nimovalsa_chain *chain,
+                       const uint8_t *whole, size_t length)
 {
-    const int there = length >= NIMOVALSA_PLAN_BYTES(plan->count);
-    struct nimovalsa_plan read, want;
+    const int there = length >= NIMOVALSA_PLAN_BYTES(chain->count);
+    struct nimovalsa_chain read, want;
     uint8_t *block = malloc(1 + length);
 
     expect(block != NULL, "no memory");
@@ -187,44 +187,44 @@ static void try_decode(const struct nimovalsa_plan *plan, const uint8_t *whole,
     memset(&read, 0xEE, sizeof read);
     memset(&want, 0xEE, sizeof want);
     if (there)
-        memcpy(&want, plan, PLAN_FRONT + plan->count * sizeof *plan->ends);
+        memcpy(&want, chain, CHAIN_FRONT + chain->count * sizeof *chain->ends);
     expect(nimovalsa_plan_decode(block + 1, length, &read) == there,
            "a plan is decoded at another length");
-    expect(memcmp(&read, &want, PLAN_FIELDS) == 0, "a plan is read otherwise");
+    expect(memcmp(&read, &want, CHAIN_FIELDS) == 0, "a plan is read otherwise");
     free(block);
 }
 
 static void try_lengths(uint16_t count)
 {
-    const struct nimovalsa_plan plan = plan_of(count);
+    const struct nimovalsa_chain chain = chain_of(count);
     uint8_t whole[PLAN_BYTES + 1] = {0};
 
-    nimovalsa_plan_encode(&plan, whole, sizeof whole);
+    nimovalsa_plan_encode(&chain, whole, sizeof whole);
     for (size_t length = 0; length <= NIMOVALSA_PLAN_BYTES(count) + 1;
          length++) {
-        try_encode(&plan, whole, length);
-        try_decode(&plan, whole, length);
+        try_encode(&chain, whole, length);
+        try_decode(&chain, whole, length);
     }
 }
 
 /* Each byte of mark and version, and a count of more than there is room for. */
 static void refuse_wrong_bytes(void)
 {
-    struct nimovalsa_plan plan = plan_of(NIMOVALSA_LONGEST_HORIZON);
+    struct nimovalsa_chain chain = chain_of(NIMOVALSA_LONGEST_HORIZON);
     uint8_t bytes[2 * PLAN_BYTES] = {0};
 
-    nimovalsa_plan_encode(&plan, bytes, sizeof bytes);
+    nimovalsa_plan_encode(&chain, bytes, sizeof bytes);
     for (size_t k = 0; k < NIMOVALSA_HEAD_BYTES; k++) {
         bytes[k] ^= 4;
-        expect(!nimovalsa_plan_decode(bytes, sizeof bytes, &plan),
+        expect(!nimovalsa_plan_decode(bytes, sizeof bytes, &chain),
                "a wrong mark or version is decoded");
         bytes[k] ^= 4;
     }
     put16(bytes + 17, NIMOVALSA_LONGEST_HORIZON + 1);
-    expect(!nimovalsa_plan_decode(bytes, sizeof bytes, &plan),
+    expect(!nimovalsa_plan_decode(bytes, sizeof bytes, &chain),
            "a count above the longest horizon is decoded");
-    plan.count = NIMOVALSA_LONGEST_HORIZON + 1;
-    expect(nimovalsa_plan_encode(&plan, bytes, sizeof bytes) == 0,
+    chain.count = NIMOVALSA_LONGEST_HORIZON + 1;
+    expect(nimovalsa_plan_encode(&chain, bytes, sizeof bytes) == 0,
            "a count above the longest horizon is encoded");
 }
 

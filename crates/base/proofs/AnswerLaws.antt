@@ -3,20 +3,17 @@
 --     unless-iff      a row gives 0 exactly when its rule holds and what comes after gives 0
 --     answered-some, answered-iff      a number that is not 0 is a refusal
 --     orElse-pass, orElse-stop, orElse-iff      the first refusal of two answers; there is none exactly when neither has one
---     first-zero, first-suc, first-found, first-iff      the same of several
---     answered-all, orElse-all, first-all      what holds of every part holds of the first refusal
+--     answered-all, orElse-all      what holds of every part holds of the first refusal
+--     accepted-packs, refused-packs      which answers a C form has room for
 -- Assumes nothing.
-use Prim.Native.Nat.{ℕ, zero, suc, _+_, _≤_, _<_}
+use Prim.Native.Nat.{ℕ, zero, suc, _≤_, _<_}
 use mathlib.Core.Path.{_≡_, refl}
 use mathlib.Core.Bool.{Bool, true, false, false≢true}
-use mathlib.Core.Logic.{_↔_, Iff·trans, Iff·rfl}
+use mathlib.Core.Logic.{_↔_, Iff·rfl}
 use native.Mathlib.Omega.{arith}
-use native.Mathlib.Nat.{not-suc-le-zero}
-use native.Mathlib.Numerals.{add-one}
-use native.Mathlib.Decide.{le-ind}
 use lib.Dec.{eqb, eqb·suc-zero}
 use borrow.Author.Tests.{eqb-true, eqb-false, eq-eqb, ne-eqb}
-use Rattle.base.specs.Answer.{accepted, refused, answered, _unless_else_, _orElse_, firstBelow}
+use Rattle.base.specs.Answer.{accepted, refused, answered, _unless_else_, _orElse_, totalBound, Packs}
 use Rattle.base.specs.declared.Answer.{Answer}
 use Rattle.base.proofs.TestLaws.{by-test}
 
@@ -60,39 +57,16 @@ orElse-iff a b =
     (λ t. let z = eqb-true (a .number) 0 t in rw t (λ e. (z, e), λ h. h .1))
     (λ t. rw t (λ e. absurd (eqb-false (a .number) 0 t e), λ h. h .0))
 
-pub first-zero : (f : ℕ → Answer) → firstBelow 0 f ≡ accepted 0
-unfolding firstBelow
-first-zero f = refl
-
-pub first-suc : (n : ℕ) (f : ℕ → Answer) → firstBelow n f ≡ accepted 0 → firstBelow (n + 1) f ≡ f n
-unfolding firstBelow
-first-suc n f e = rw (add-one, firstBelow, e)
-
-pub first-found : (n m : ℕ) (f : ℕ → Answer) → n < m → firstBelow n f ≡ accepted 0 → (f n .number ≡ 0 → ⊥) → firstBelow m f ≡ f n
-unfolding firstBelow
-first-found n m f h e q =
-    le-ind (λ (k : ℕ). firstBelow k f ≡ f n) (rw e) (λ k h ih. rw ih (orElse-stop (f n) (f k) q)) m h
-
-pub first-iff : (n : ℕ) (f : ℕ → Answer) → (firstBelow n f .number ≡ 0) ↔ ((k : ℕ) → k < n → f k .number ≡ 0)
-unfolding firstBelow
-first-iff zero f = (λ e k h. absurd (not-suc-le-zero h), λ h. refl)
-first-iff (suc n) f =
-    Iff·trans (orElse-iff (firstBelow n f) (f n)) (
-      λ h k l. by-test (eqb k n)
-          (λ t. rw (eqb-true k n t) (h .1))
-          (λ t. let d = eqb-false k n t in first-iff n f .0 (h .0) k (omega arith)),
-      λ h. (first-iff n f .1 (λ k l. h k (omega arith)), h n (omega arith)),
-    )
-
 -- what holds of an accepted answer and of a refusal holds of whatever is answered
 module _ (P : Answer → Type 0) where
-  pub answered-all : (n k : ℕ) → P (accepted 0) → P (refused n k) → P (answered n k)
-  answered-all n k a r = by-test (eqb n 0) (λ t. rw t a) (λ t. rw t r)
+  pub answered-all : (n k : ℕ) → P (accepted 0) → ((n ≡ 0 → ⊥) → P (refused n k)) → P (answered n k)
+  answered-all n k a r = by-test (eqb n 0) (λ t. rw t a) (λ t. rw t (r (eqb-false n 0 t)))
 
   pub orElse-all : (a b : Answer) → P a → P b → P (a orElse b)
   orElse-all a b p q = by-test (eqb (a .number) 0) (λ t. rw t q) (λ t. rw t p)
 
-  pub first-all : (n : ℕ) (f : ℕ → Answer) → P (accepted 0) → ((k : ℕ) → k < n → P (f k)) → P (firstBelow n f)
-  unfolding firstBelow
-  first-all zero f a h = a
-  first-all (suc n) f a h = orElse-all (firstBelow n f) (f n) (first-all n f a (λ k l. h k (omega arith))) (h n (omega arith))
+pub accepted-packs : (total : ℕ) → total < totalBound → Packs (accepted total)
+accepted-packs total h = record { number = omega arith; option = omega arith; total = h }
+
+pub refused-packs : (n : ℕ) → n < 64 → (k : ℕ) → k < 4 → Packs (refused n k)
+refused-packs n h k l = record { number = h; option = l; total = omega arith }

@@ -1,12 +1,13 @@
 -- Laws of `Lists.antt`, for lists of anything. In order:
 --     every-map      what follows for each member follows for every member of a list
+--     every-mapped      what holds of each member's image holds of every member of the list of images
 --     every-append      what holds of every member of two lists holds of every member of both together
 --     sumOf-append, sumOf-cons, sumOf-one, sumOf-two      the sum over two lists together, over a member and the rest, over one and over two
 --     getD-listed      what stands at an index of a list that is given by its index
 -- Assumes nothing.
 use Prim.Native.Nat.{ℕ, _+_, zero, suc, _<_}
 use mathlib.Core.Path.{_≡_, refl}
-use mathlib.Core.List.{List, [], _∷_, _++_}
+use mathlib.Core.List.{List, [], _∷_, _++_, map}
 use native.Mathlib.Nat.{add-zero, le-of-suc-le-suc, not-suc-le-zero}
 use native.Mathlib.Omega.{arith}
 use lib.ListN.{getD}
@@ -15,6 +16,10 @@ use Rattle.base.specs.Lists.{Every, sumOf, listed}
 pub every-map : {A : Type 0} (S R : A → Type 0) → ((x : A) → S x → R x) → (xs : List A) → Every S xs → Every R xs
 every-map S R f [] h = tt
 every-map S R f (x ∷ xs) h = (f x (h .0), every-map S R f xs (h .1))
+
+pub every-mapped : {A B : Type 0} (S : B → Type 0) (f : A → B) (xs : List A) → Every (λ x. S (f x)) xs → Every S (map f xs)
+every-mapped S f [] h = tt
+every-mapped S f (x ∷ xs) h = (h .0, every-mapped S f xs (h .1))
 
 pub every-append : {A : Type 0} (S : A → Type 0) (xs ys : List A) → Every S xs → Every S ys → Every S (xs ++ ys)
 every-append S [] ys h k = k

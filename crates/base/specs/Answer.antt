@@ -1,5 +1,5 @@
 -- What a call answers: a number, an option and a total. Document 01, 'Refusal table', the paragraph below it. Definitions only.
-use Prim.Native.Nat.{ℕ, zero, suc, _≤_}
+use Prim.Native.Nat.{ℕ, _<_}
 use mathlib.Core.Bool.{Bool, cond}
 use lib.Dec.{eqb}
 use Rattle.base.specs.declared.Answer.{Answer}
@@ -26,16 +26,12 @@ infixr 20 _orElse_
 abbrev pub _orElse_ : Answer → Answer → Answer
 first orElse second = cond (eqb (first .number) 0) second first
 
--- the first refusal of answer 0, answer 1, .., answer (n − 1)
-unfoldable pub firstBelow : ℕ → (ℕ → Answer) → Answer
-firstBelow zero answer = accepted 0
-firstBelow (suc n) answer = firstBelow n answer orElse answer n
-
--- the numbers of the table go up to 14, its options up to 3
-pub record InTable (a : Answer) : Type 0 where
-  pub number : a .number ≤ 14
-  pub option : a .option ≤ 3
-
 -- 2^56, the first total that leaves no room in 64 bits for a number and an option
 abbrev pub totalBound : ℕ
 totalBound = 72_057_594_037_927_936
+
+-- what a C form's one u64 has room for: six bits of number, two of option, the other 56 of total
+pub record Packs (a : Answer) : Type 0 where
+  pub number : a .number < 64
+  pub option : a .option < 4
+  pub total : a .total < totalBound

@@ -1,22 +1,26 @@
 -- A chain's rounded total against its exact value: the allowances of arcs that follow each other add up, so four times the difference is at
 -- most 5T² + 3T (`total-near`); and of two chains, if the first's rounded total is at most the second's, its exact value is at most twice
--- that above the second's (`chain-loss`). Assumes nothing.
+-- that above the second's (`chain-loss`). The exact value of every payment of a feasible chain is whole (`chain-whole`). Assumes nothing.
 use Prim.Native.Nat.{ℕ, _+_, _-_, _*_, _≤_}
 use mathlib.Core.Path.{subst}
 use mathlib.Core.List.{List, [], _∷_}
 use native.Mathlib.Nat.{mul-le-mul-left}
 use native.Mathlib.Omega.{arith}
-use Rattle.base.specs.Lists.{sumOf}
-use Rattle.sheet.specs.Sheet.{PlanningSheet, maintain, renovate, replace}
+use Rattle.base.specs.Lists.{Every, sumOf}
+use Rattle.base.proofs.ListsLaws.{every-map, every-mapped}
+use Rattle.sheet.specs.Sheet.{PlanningSheet, sheetOf, maintain, renovate, replace}
 use Rattle.sheet.specs.Parsed.{parsed}
+use Rattle.checking.specs.Passes.{Passes}
 use Rattle.checking.specs.Fit.{Fit}
 use Rattle.steps.specs.Step.{above, below}
-use Rattle.costing.specs.Arc.{arcOf, cost, exactCost}
+use Rattle.steps.specs.Exact.{Whole}
+use Rattle.costing.specs.Arc.{Arc, arcOf, payments, cost, exactCost}
 use Rattle.costing.specs.Error.{allowance}
 use Rattle.costing.specs.Fit.{Between}
 use Rattle.costing.proofs.ErrorOfArc.{between-add, arc-between}
 use Rattle.costing.proofs.SheetArcLaws.{arc-fits}
-use Rattle.chain.specs.Chain.{Chain, Activity, _from_to_, replacements, activities, last, Feasible, arcsOf, roundedTotal, exactValue}
+use Rattle.costing.proofs.CostLaws.{offered-whole}
+use Rattle.chain.specs.Chain.{Chain, Activity, _from_to_, replacements, activities, last, OffersActivity, Feasible, arcsOf, arcs, roundedTotal, exactValue}
 use Rattle.chain.specs.Error.{denominator, TotalNear}
 use Rattle.chain.specs.Ordered.{Climbs}
 use Rattle.chain.proofs.FeasibleLaws.{climbs-rest, ordered-of-feasible}
@@ -74,3 +78,12 @@ module _ (p : PlanningSheet) (fit : Fit (parsed p)) where
       (c d : Chain) → Feasible p c → Feasible p d → roundedTotal p c ≤ roundedTotal p d
       → 4 * exactValue p c ≤ 4 * exactValue p d + 2 * (allowance (p .horizon) * denominator p)
   chain-loss c d h k le = omega (arith, total-near c h, total-near d k, mul-le-mul-left (denominator p) le)
+
+-- each payment of each arc
+pub chain-whole :
+    (s : List ℕ) → Passes s → (c : Chain) → Feasible (sheetOf s) c
+    → Every (λ (a : Arc). Every (Whole (sheetOf s .horizon) (1_000_000 + sheetOf s .rate)) (payments a)) (arcs (sheetOf s) c)
+unfolding arcsOf
+chain-whole s h c f =
+    every-mapped _ _ (activities c)
+    (every-map (OffersActivity (sheetOf s)) _ (λ a o. offered-whole s (a .option) (a .start) (a .end) h o) (activities c) (f .offered))

@@ -6,12 +6,13 @@ use mathlib.Core.List.{List}
 use mathlib.Core.Bool.{true, false}
 use mathlib.Core.Logic.{_↔_}
 use native.Mathlib.Omega.{arith}
-use Rattle.base.specs.Answer.{accepted, refused, _unless_else_, firstBelow}
+use Rattle.base.specs.Answer.{accepted, refused, _unless_else_}
 use Rattle.base.specs.declared.Answer.{Answer}
-use Rattle.base.proofs.AnswerLaws.{answered-some, orElse-stop, first-suc, first-found}
+use Rattle.base.proofs.AnswerLaws.{answered-some, orElse-stop}
 use Rattle.sheet.specs.Sheet.{OptionRecord, sheetOf}
-use Rattle.checking.specs.Refusals.{overhaulOk, headerNumber, fieldsNumber, overhaulAnswer, optionAnswer, checked}
+use Rattle.checking.specs.Refusals.{overhaulOk, headerNumber, fieldsNumber, overhaulAnswer, firstBelow, optionAnswer, checked}
 use Rattle.checking.specs.Passes.{Passes}
+use Rattle.checking.proofs.FirstLaws.{first-suc, first-found}
 use Rattle.checking.proofs.PassesLaws.{header-iff, checked-iff}
 
 -- an answer a, which is b, is that of `checked`, and it accepts exactly the sheets that pass

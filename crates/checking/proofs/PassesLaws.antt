@@ -10,13 +10,14 @@ use lib.Dec.{lit<, ltb}
 use lib.ListN.{length, getD}
 use lib.IntN.{ℤ, pos, negℤ}
 use borrow.Author.Tests.{ltb-true, ltb-false}
-use Rattle.base.specs.Answer.{_unless_else_, firstBelow}
+use Rattle.base.specs.Answer.{_unless_else_}
 use Rattle.base.proofs.TestLaws.{by-test, leb-iff, ltb-iff, eqb-iff, leZ-iff, both-iff, either-iff}
-use Rattle.base.proofs.AnswerLaws.{unless-iff, answered-iff, orElse-iff, first-iff}
+use Rattle.base.proofs.AnswerLaws.{unless-iff, answered-iff, orElse-iff}
 use Rattle.sheet.specs.Layout.{sheetLength}
 use Rattle.sheet.specs.Sheet.{Expense, OptionRecord, PlanningSheet, sheetOf, factor}
-use Rattle.checking.specs.Refusals.{inflationOk, inflationsOk, ageingOk, ageingsOk, ageBefore, overhaulOk, headerNumber, fieldsNumber, overhaulAnswer, optionAnswer, checked}
+use Rattle.checking.specs.Refusals.{inflationOk, inflationsOk, ageingOk, ageingsOk, ageBefore, overhaulOk, headerNumber, fieldsNumber, overhaulAnswer, firstBelow, optionAnswer, checked}
 use Rattle.checking.specs.Passes.{InflationPasses, AgeingPasses, UsedPasses, UnusedPasses, OptionPasses, HeaderPasses, Passes}
+use Rattle.checking.proofs.FirstLaws.{first-iff}
 
 pub header-iff : (s : List ℕ) → (headerNumber s ≡ 0) ↔ HeaderPasses s
 unfolding headerNumber

@@ -8,7 +8,7 @@ use lib.ListN.{length, getD}
 use lib.Dec.{leb, ltb, eqb}
 use lib.IntN.{ℤ, pos, negℤ}
 use lib.Signed.{leZ}
-use Rattle.base.specs.Answer.{answered, _unless_else_, _orElse_, firstBelow}
+use Rattle.base.specs.Answer.{accepted, answered, _unless_else_, _orElse_}
 use Rattle.base.specs.declared.Answer.{Answer}
 use Rattle.sheet.specs.Layout.{sheetLength}
 use Rattle.sheet.specs.Sheet.{Expense, OptionRecord, PlanningSheet, sheetOf, factor}
@@ -106,6 +106,11 @@ fieldsNumber r o =
 -- the answer for entry j of option k
 unfoldable pub overhaulAnswer : OptionRecord → ℕ → ℕ → Answer
 overhaulAnswer o k j = answered (9 unless overhaulOk o j else 0) k
+
+-- the first refusal of answer 0, answer 1, .., answer (n − 1): the check stops at the first fault
+unfoldable pub firstBelow : ℕ → (ℕ → Answer) → Answer
+firstBelow zero answer = accepted 0
+firstBelow (suc n) answer = firstBelow n answer orElse answer n
 
 -- the answer for option k: inside one, overhaul by overhaul
 unfoldable pub optionAnswer : PlanningSheet → ℕ → Answer

@@ -1,19 +1,33 @@
--- Cases 6 to 8 of document 01, evaluated from the definitions that the contracts cite. Assumes nothing.
+-- Cases 6 to 8 of document 01, and further cases of costing, evaluated from the definitions that the contracts cite. Assumes nothing.
 use mathlib.Core.Path.{refl}
 use Rattle.base.specs.Lists.{sumOf}
 use Rattle.base.specs.Numbers.{u16At, u32At, i32At}
-use Rattle.base.specs.Answer.{_unless_else_, firstBelow}
+use Rattle.base.specs.Answer.{_unless_else_}
 use Rattle.base.specs.Cases.{AllHold}
 use Rattle.sheet.specs.Sheet.{expenseAt, onceAt, optionAt, sheetOf, factor}
 use Rattle.sheet.specs.Parsed.{flowOf, overhaulsOf, termsOf}
-use Rattle.checking.specs.Refusals.{inflationOk, inflationsOk, ageingOk, ageingsOk, ageBefore, overhaulOk, headerNumber, fieldsNumber, overhaulAnswer, optionAnswer, checked}
+use Rattle.checking.specs.Refusals.{inflationOk, inflationsOk, ageingOk, ageingsOk, ageBefore, overhaulOk, headerNumber, fieldsNumber, overhaulAnswer, firstBelow, optionAnswer, checked}
 use Rattle.steps.specs.Step.{divided, plain, inService, repeated}
 use Rattle.steps.specs.Payment.{rounded, once}
 use Rattle.costing.specs.Arc.{arcOf, inYear, investment, maintenance, electricity, ageOf, overhaul, forEach, paidIf, overhaulsBelow, paid, payments, cost}
 use Rattle.costing.specs.Offered.{offered}
 use Rattle.costing.specs.Costing.{costing, costed}
-use Rattle.costing.specs.Cases.{casesSixToEight}
+use Rattle.costing.specs.Cases.{casesSixToEight, casesOfArcs, casesOfThirteen}
+
+-- all lists at once, by the same definitions
+cases-hold : AllHold casesSixToEight × AllHold casesOfArcs × AllHold casesOfThirteen
+unfolding u16At u32At i32At expenseAt onceAt optionAt sheetOf factor flowOf overhaulsOf termsOf _unless_else_ inflationOk inflationsOk ageingOk ageingsOk ageBefore overhaulOk headerNumber fieldsNumber overhaulAnswer firstBelow optionAnswer checked divided plain inService repeated rounded sumOf arcOf once inYear investment maintenance electricity ageOf overhaul forEach paidIf overhaulsBelow paid payments cost offered costing costed
+cases-hold = (
+  (refl, (refl, (refl, tt))),
+  (refl, (refl, (refl, tt))),
+  (refl, (refl, (refl, (refl, (refl, (refl, (refl, (refl, (refl, (refl, (refl, (refl, (refl, (refl, (refl, (refl, (refl, (refl, tt)))))))))))))))))),
+)
 
 pub arc-cases-hold : AllHold casesSixToEight
-unfolding u16At u32At i32At expenseAt onceAt optionAt sheetOf factor flowOf overhaulsOf termsOf _unless_else_ firstBelow inflationOk inflationsOk ageingOk ageingsOk ageBefore overhaulOk headerNumber fieldsNumber overhaulAnswer optionAnswer checked divided plain inService repeated rounded sumOf arcOf once inYear investment maintenance electricity ageOf overhaul forEach paidIf overhaulsBelow paid payments cost offered costing costed
-arc-cases-hold = (refl, (refl, (refl, tt)))
+arc-cases-hold = cases-hold .0
+
+pub distinct-cases-hold : AllHold casesOfArcs
+distinct-cases-hold = cases-hold .1
+
+pub thirteen-cases-hold : AllHold casesOfThirteen
+thirteen-cases-hold = cases-hold .2

@@ -1,6 +1,6 @@
 -- An arc's cost against its exact value: they differ by at most the allowance of its years (`arc-error`). In order: every payment of an arc
--- passes the checks and falls by the horizon; the halves of a unit that the payments of each year give; the two together.
--- Assumes nothing.
+-- passes the checks and falls by the horizon, so its exact value is whole (`payments-whole`) and its rounded one near (`payments-error`); the
+-- halves of a unit that the payments of each year give; the two together. Assumes nothing.
 use Prim.Native.Nat.{ℕ, zero, suc, _+_, _*_, _≤_, _<_}
 use mathlib.Core.Path.{_≡_, refl}
 use mathlib.Core.List.{List, [], _∷_, _++_}
@@ -16,10 +16,10 @@ use Rattle.sheet.specs.declared.Flow.{Flow}
 use Rattle.checking.specs.Fit.{FlowFits}
 use Rattle.steps.specs.Step.{above, below}
 use Rattle.steps.specs.Payment.{Payment, year, once}
-use Rattle.steps.specs.Exact.{_over_, common}
+use Rattle.steps.specs.Exact.{_over_, common, Whole}
 use Rattle.steps.specs.Error.{NearBy, halves, PaymentNear}
 use Rattle.steps.specs.Fit.{Sound}
-use Rattle.steps.proofs.ErrorOfPayment.{payment-error, total-error}
+use Rattle.steps.proofs.ErrorOfPayment.{payment-error, exact-whole, total-error}
 use Rattle.costing.specs.Arc.{Arc, inYear, investment, maintenance, electricity, ageOf, overhaul, forEach, paidIf, overhaulsBelow, paid, payments, cost, exactCost}
 use Rattle.costing.specs.Error.{allowance, WithinAllowance}
 use Rattle.costing.specs.Fit.{KeptFits, ArcFits, Between}
@@ -77,12 +77,18 @@ module _ (horizon : ℕ) (k : Kept) (ok : KeptFits k) where
             (flow (k .terms .electricity) (ok .terms .electricity) (k .from) (suc n) h),
       )
 
--- so each payment of an arc after p plain steps and s in service is off by at most p + 2s halves of a unit
-pub payments-error : (a : Arc) → ArcFits a → Every (PaymentNear (a .kept .discount)) (payments a)
-unfolding payments
-payments-error a ok =
-    every-map _ _ (λ p s. payment-error (a .kept .discount) p (s .rates)) (paid (a .kept) (a .years))
-    (paid-sound (a .horizon) (a .kept) (ok .kept) (a .years) (ok .inside))
+module _ (a : Arc) (ok : ArcFits a) where
+  payments-sound : Every (Sound (a .horizon) (a .kept .discount)) (payments a)
+  unfolding payments
+  payments-sound = paid-sound (a .horizon) (a .kept) (ok .kept) (a .years) (ok .inside)
+
+  -- so each payment of an arc after p plain steps and s in service is off by at most p + 2s halves of a unit
+  pub payments-error : Every (PaymentNear (a .kept .discount)) (payments a)
+  payments-error = every-map _ _ (λ p s. payment-error (a .kept .discount) p (s .rates)) (payments a) payments-sound
+
+  -- and its exact value over the common denominator is whole
+  pub payments-whole : Every (Whole (a .horizon) (a .kept .discount)) (payments a)
+  payments-whole = every-map _ _ (λ p s. exact-whole (a .horizon) (a .kept .discount) p (s .by)) (payments a) payments-sound
 
 -- the allowance of one year
 allowance-suc : (y : ℕ) → allowance y + 10 * y + 8 ≤ allowance (suc y)

@@ -1,38 +1,27 @@
--- The bytes of the sheets of document 01's cases 6 to 12, and of sheets with nothing to pay. Definitions only.
-use Prim.Native.Nat.{ℕ, _/_, _%_}
+-- The bytes of the sheets of document 01's cases 6 to 12, of a sheet whose fields all differ, and of sheets with nothing to pay. Definitions only.
+use Prim.Native.Nat.{ℕ}
 use mathlib.Core.List.{List, [], _∷_, _++_}
 use lib.ListN.{replicate}
+use lib.Seq.{sets}
+use Rattle.sheet.specs.CaseBytes.{bytes16, minus, headerBytes, recordBytes}
+use Rattle.checking.specs.CaseSheets.{recordAt}
 
--- little-endian fields, written out: the sheets do not go by the definitions that the cases evaluate
-abbrev pub bytes16 : ℕ → List ℕ
-bytes16 n = n % 256 ∷ n / 256 ∷ []
+-- no overhaul, and one
+abbrev pub noOverhaul : List (ℕ × ℕ)
+noOverhaul = []
 
-abbrev pub bytes32 : ℕ → List ℕ
-bytes32 n = n % 256 ∷ n / 256 % 256 ∷ n / 65_536 % 256 ∷ n / 16_777_216 ∷ []
-
--- an overhaul, if there is one: a count, and the eight entries behind it
-abbrev pub noOverhaul : List ℕ
-noOverhaul = replicate 49 0
-
-abbrev pub oneOverhaul : (age amount : ℕ) → List ℕ
-oneOverhaul age amount = (1 ∷ bytes16 age) ++ bytes32 amount ++ replicate 42 0
+abbrev pub oneOverhaul : (age amount : ℕ) → List (ℕ × ℕ)
+oneOverhaul age amount = (age, amount) ∷ []
 
 -- the bytes of a sheet that offers replace alone, with all f and g 0 and no electricity
-abbrev pub replaceSheet : (horizon rate shortest longest investment maintenance : ℕ) (overhauls : List ℕ) → List ℕ
+abbrev pub replaceSheet : (horizon rate shortest longest investment maintenance : ℕ) (overhauls : List (ℕ × ℕ)) → List ℕ
 replaceSheet horizon rate shortest longest investment maintenance overhauls =
-    (82 ∷ 67 ∷ 83 ∷ 1 ∷ 0 ∷ bytes16 horizon)
-    ++ bytes32 rate
+    headerBytes horizon rate
     ++ replicate 178 0
-    ++ bytes16 shortest
-    ++ bytes16 longest
-    ++ bytes32 investment
-    ++ replicate 4 0
-    ++ bytes32 maintenance
-    ++ replicate 24 0
-    ++ overhauls
+    ++ recordBytes shortest longest (investment ∷ 0 ∷ maintenance ∷ 0 ∷ 0 ∷ 0 ∷ 0 ∷ 0 ∷ 0 ∷ []) overhauls
 
 -- cases 6 to 8: replace, T = 3, lives 1 to 2, r 40,000, investment 1, maintenance 1; and with an overhaul of 1 at age 1
-abbrev pub arcSheet : List ℕ → List ℕ
+abbrev pub arcSheet : List (ℕ × ℕ) → List ℕ
 arcSheet overhauls = replaceSheet 3 40_000 1 2 1 1 overhauls
 
 -- only replace offered, r 0, lives 3 to 4, nothing to pay: case 9 has T = 5, case 10 T = 7
@@ -50,11 +39,24 @@ sheet11 = replaceSheet 3 0 1 2 0 1 noOverhaul
 abbrev pub sheet12 : List ℕ
 sheet12 = replaceSheet 4 0 1 3 10 1 (oneOverhaul 2 15)
 
+-- a sheet with T = 9 and r 50,000 that offers all options, each with two overhauls: no two of its rates, of its amounts or of its lives are equal
+abbrev pub distinctSheet : List ℕ
+distinctSheet =
+    headerBytes 9 50_000
+    ++ recordBytes 3 6 (1_101 ∷ 11_000 ∷ 1_203 ∷ 12_000 ∷ 13_000 ∷ 1_307 ∷ 14_000 ∷ 15_000 ∷ 16_000 ∷ []) ((1, 1_409) ∷ (2, 1_511) ∷ [])
+    ++ recordBytes 4 7
+    (2_101 ∷ minus 21_000 ∷ 2_203 ∷ minus 22_000 ∷ 23_000 ∷ 2_307 ∷ minus 24_000 ∷ 25_000 ∷ minus 26_000 ∷ [])
+    ((1, 2_409) ∷ (3, 2_511) ∷ [])
+    ++ recordBytes 2 5 (3_101 ∷ 31_000 ∷ 3_203 ∷ minus 32_000 ∷ 33_000 ∷ 3_307 ∷ 4_000 ∷ 35_000 ∷ 36_000 ∷ []) ((2, 3_409) ∷ (3, 3_511) ∷ [])
+
+-- the same, option k not offered
+abbrev pub without : (k : ℕ) → List ℕ
+without k = sets distinctSheet (recordAt k) (bytes16 0 ++ bytes16 0)
+
 -- the bytes of a sheet with T = 3, r 0 and nothing to pay, by the lives of maintain, renovate and replace
 abbrev pub freeSheet : (shortest0 longest0 shortest1 longest1 shortest2 longest2 : ℕ) → List ℕ
 freeSheet shortest0 longest0 shortest1 longest1 shortest2 longest2 =
-    (82 ∷ 67 ∷ 83 ∷ 1 ∷ 0 ∷ bytes16 3)
-    ++ bytes32 0
+    headerBytes 3 0
     ++ bytes16 shortest0
     ++ bytes16 longest0
     ++ replicate 85 0

@@ -1,19 +1,62 @@
--- Cases 6 to 8 of document 01, as a list of what the rules give beside what it should be; `CaseLaws.antt` evaluates them. Definitions only.
+-- Arcs costed, a list of what the rules give beside what it should be: document 01's cases 6 to 8, an arc of each option of a sheet whose fields
+-- all differ, and each reason of refusal 13. `CaseLaws.antt` evaluates them. Definitions only.
 use Prim.Native.Nat.{ℕ}
 use mathlib.Core.List.{List, [], _∷_}
-use Rattle.base.specs.Answer.{accepted}
+use lib.Seq.{sets}
+use Rattle.base.specs.Answer.{accepted, refused}
 use Rattle.base.specs.Cases.{Case}
 use Rattle.base.specs.declared.Answer.{Answer}
+use Rattle.sheet.specs.CaseBytes.{bytes32}
+use Rattle.checking.specs.CaseSheets.{rateAt}
 use Rattle.costing.specs.Costing.{costed}
-use Rattle.costing.specs.CaseSheets.{noOverhaul, oneOverhaul, arcSheet}
+use Rattle.costing.specs.CaseSheets.{noOverhaul, oneOverhaul, arcSheet, distinctSheet, without}
 
--- what costing answers for a sheet's replace option
-abbrev pub replaceCase : (sheet : List ℕ) (start end units : ℕ) → Case
-replaceCase sheet start end units = record { Figure = Answer; given = costed sheet 2 start end; expected = accepted units }
+-- what costing answers for an option of a sheet, from a start to an end
+abbrev pub costCase : (sheet : List ℕ) (option start end : ℕ) → Answer → Case
+costCase sheet option start end answer = record { Figure = Answer; given = costed sheet option start end; expected = answer }
 
 abbrev pub casesSixToEight : List Case
 casesSixToEight =
-    replaceCase (arcSheet noOverhaul) 1 3 27_749
-    ∷ replaceCase (arcSheet (oneOverhaul 1 1)) 1 3 36_994
-    ∷ replaceCase (arcSheet (oneOverhaul 1 1)) 1 2 18_860
+    costCase (arcSheet noOverhaul) 2 1 3 (accepted 27_749)
+    ∷ costCase (arcSheet (oneOverhaul 1 1)) 2 1 3 (accepted 36_994)
+    ∷ costCase (arcSheet (oneOverhaul 1 1)) 2 1 2 (accepted 18_860)
+    ∷ []
+
+-- every field of a record goes into the arc's cost, in which both overhauls are paid; the totals were worked out apart from these definitions
+abbrev pub casesOfArcs : List Case
+casesOfArcs =
+    costCase distinctSheet 0 0 4 (accepted 133_874_062)
+    ∷ costCase distinctSheet 1 2 6 (accepted 193_342_317)
+    ∷ costCase distinctSheet 2 3 7 (accepted 295_292_049)
+    ∷ []
+
+-- refusal 13, each reason beside an arc that does not have it
+abbrev pub casesOfThirteen : List Case
+casesOfThirteen =
+    -- option above 2
+    costCase distinctSheet 3 3 7 (refused 13 3)
+    -- end above T, which is 9
+    ∷ costCase distinctSheet 2 6 10 (refused 13 3)
+    ∷ costCase distinctSheet 2 6 9 (accepted 186_224_000)
+    -- end before start
+    ∷ costCase distinctSheet 1 6 5 (refused 13 3)
+    ∷ costCase distinctSheet 1 6 6 (accepted 0)
+    -- maintain not from 0
+    ∷ costCase distinctSheet 0 1 4 (refused 13 3)
+    ∷ costCase distinctSheet 0 0 3 (accepted 110_877_655)
+    -- length not offered: replacements last 2 to 5 years
+    ∷ costCase distinctSheet 2 3 4 (refused 13 3)
+    ∷ costCase distinctSheet 2 3 5 (accepted 132_946_485)
+    ∷ costCase distinctSheet 2 3 8 (accepted 342_397_168)
+    ∷ costCase distinctSheet 2 3 9 (refused 13 3)
+    -- length 0, which only maintain and renovate have; it costs 0, investment included
+    ∷ costCase distinctSheet 0 0 0 (accepted 0)
+    ∷ costCase distinctSheet 1 3 3 (accepted 0)
+    ∷ costCase distinctSheet 2 3 3 (refused 13 3)
+    -- an option that is not offered
+    ∷ costCase (without 1) 1 2 6 (refused 13 3)
+    ∷ costCase (without 1) 1 3 3 (accepted 0)
+    ∷ costCase (without 2) 2 3 3 (refused 13 3)
+    -- refusals 1 to 9 come first
+    ∷ costCase (sets distinctSheet rateAt (bytes32 200_001)) 3 3 7 (refused 4 3)
     ∷ []

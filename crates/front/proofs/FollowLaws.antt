@@ -23,13 +23,13 @@ module _ (p : PlanningSheet) (j : ℕ) where
   reached-first ends there = record { there = there; goes = refl }
 
   pub reached-next :
-      (y e count : ℕ) (ends : List ℕ) → Reached p j y count ends → count < length ends → Next p y e
-      → Reached p j e (count + 1) (set ends count e)
-  reached-next y e count ends h room next =
+      (y e w count : ℕ) (ends : List ℕ) → Reached p j y count ends → count < length ends → Next p y e → w ≡ e
+      → Reached p j e (count + 1) (set ends count w)
+  reached-next y e w count ends h room next written =
       record {
         there = next .there;
         goes =
-            rw (add-one count, take-suc-set ends count e room, append-snoc (take count ends) e (tailFrom p e .ends), ← next .rest) (h .goes);
+            rw (written, add-one count, take-suc-set ends count e room, append-snoc (take count ends) e (tailFrom p e .ends), ← next .rest) (h .goes);
       }
 
   pub reached-last : (y count : ℕ) (ends : List ℕ) → Reached p j y count ends → y ≡ p .horizon → count ≤ length ends → Follows p j count ends

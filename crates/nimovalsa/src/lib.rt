@@ -1,10 +1,13 @@
 // The C forms: each calls its Rattle form and packs the answer into one u64. A slice is a pointer and then a length.
 // The declarations for C are in include/nimovalsa.h.
+//
+// This page is all that is claimed of the four calls, for every input. The names below say where each definition stands. `now (x .entry)` is
+// what a buffer holds before the call and `now (x .exit)` after it; `answerIn r` is the total, number and option in what is returned.
 
 ghost use mathlib.Core.Path.{_≡_};
 ghost use mathlib.Core.Logic.{_↔_};
-ghost use Prim.Native.Nat.{ℕ, _<_};
-ghost use Rattle.base.specs.Answer.{InTable, totalBound};
+ghost use Prim.Native.Nat.{ℕ};
+ghost use Rattle.base.specs.Answer.{Packs};
 ghost use Rattle.sheet.specs.Sheet.{sheetOf};
 ghost use Rattle.checking.specs.Refusals.{checked};
 ghost use Rattle.checking.specs.Passes.{Passes};
@@ -16,13 +19,13 @@ ghost use Rattle.chain.specs.Error.{TotalNear};
 ghost use Rattle.chain.specs.PlanBytes.{decode};
 ghost use Rattle.pricing.specs.Pricing.{priced, PricedAt};
 ghost use Rattle.planning.specs.Planning.{planAnswer, planAfter, wordsAfter};
-ghost use Rattle.planner.specs.Promises.{RefusedTen, RefusedEleven, RefusedTwelve, AcceptedWhen, AmpleAccepted, ReturnsChosen, LendsCheapest, PricedAsPrinted, PrintedNear, NoneFarBelow, Leaves};
-ghost use Rattle.nimovalsa.specs.Packed.{totalIn, numberIn, Returns};
+ghost use Rattle.planner.specs.Promises.{Promised};
+ghost use Rattle.nimovalsa.specs.Packed.{answerIn, Returns};
 use base::Answer;
 
-// The answer as one u64: 2^56 is the first total that does not fit.
+// The answer as one u64.
 fn pack(a: Answer) -> u64
-    requires { ⌜ InTable a × (a .total < totalBound) ⌝ }
+    requires { ⌜ Packs a ⌝ }
     ensures { λ r. ⌜ Returns r a ⌝ }
 {
     a.total * 256 + (a.number as u64) * 4 + (a.option as u64)
@@ -32,7 +35,7 @@ fn pack(a: Answer) -> u64
 #[no_mangle]
 pub extern "C" fn nimovalsa_check(sheet: &[u8]) -> u64
     ensures answer { λ r. ⌜ Returns r (checked (now (sheet .entry))) ⌝ }
-    ensures accepted { λ r. ⌜ (numberIn r ≡ 0) ↔ Passes (now (sheet .entry)) ⌝ }
+    ensures accepted { λ r. ⌜ (answerIn r .number ≡ 0) ↔ Passes (now (sheet .entry)) ⌝ }
 {
     pack(checking::check(sheet))
 }
@@ -41,8 +44,8 @@ pub extern "C" fn nimovalsa_check(sheet: &[u8]) -> u64
 #[no_mangle]
 pub extern "C" fn nimovalsa_cost(sheet: &[u8], option: u64, start: u64, end: u64) -> u64
     ensures answer { λ r. ⌜ Returns r (costed (now (sheet .entry)) option start end) ⌝ }
-    ensures accepted { λ r. ⌜ (numberIn r ≡ 0) ↔ (Passes (now (sheet .entry)) × Offered (sheetOf (now (sheet .entry))) option start end) ⌝ }
-    ensures near { λ r. ⌜ (numberIn r ≡ 0 → WithinAllowance (arcOf (sheetOf (now (sheet .entry))) option start end) (totalIn r)) ⌝ }
+    ensures accepted { λ r. ⌜ (answerIn r .number ≡ 0) ↔ (Passes (now (sheet .entry)) × Offered (sheetOf (now (sheet .entry))) option start end) ⌝ }
+    ensures near { λ r. ⌜ (answerIn r .number ≡ 0 → WithinAllowance (arcOf (sheetOf (now (sheet .entry))) option start end) (answerIn r .total)) ⌝ }
 {
     pack(costing::cost(sheet, option, start, end))
 }
@@ -51,8 +54,8 @@ pub extern "C" fn nimovalsa_cost(sheet: &[u8], option: u64, start: u64, end: u64
 #[no_mangle]
 pub extern "C" fn nimovalsa_price(sheet: &[u8], plan: &[u8]) -> u64
     ensures answer { λ r. ⌜ Returns r (priced (now (sheet .entry)) (now (plan .entry))) ⌝ }
-    ensures accepted { λ r. ⌜ ((total : ℕ) → ((numberIn r ≡ 0) × (totalIn r ≡ total)) ↔ PricedAt (now (sheet .entry)) (now (plan .entry)) total) ⌝ }
-    ensures near { λ r. ⌜ (numberIn r ≡ 0 → TotalNear (sheetOf (now (sheet .entry))) (decode (now (plan .entry))) (totalIn r)) ⌝ }
+    ensures accepted { λ r. ⌜ ((total : ℕ) → ((answerIn r .number ≡ 0) × (answerIn r .total ≡ total)) ↔ PricedAt (now (sheet .entry)) (now (plan .entry)) total) ⌝ }
+    ensures near { λ r. ⌜ (answerIn r .number ≡ 0 → TotalNear (sheetOf (now (sheet .entry))) (decode (now (plan .entry))) (answerIn r .total)) ⌝ }
 {
     pack(pricing::price(sheet, plan))
 }
@@ -64,17 +67,7 @@ pub extern "C" fn nimovalsa_plan(sheet: &[u8], plan: &mut [u8], words: &mut [u64
     ensures answer { λ r. ⌜ Returns r (planAnswer (now (sheet .entry)) (now (plan .entry)) (now (words .entry))) ⌝ }
     ensures plan { λ _. ⌜ now (plan .exit) ≡ planAfter (now (sheet .entry)) (now (plan .entry)) (now (words .entry)) ⌝ }
     ensures words { λ _. ⌜ now (words .exit) ≡ wordsAfter (now (sheet .entry)) (now (plan .entry)) (now (words .entry)) ⌝ }
-    ensures ten { λ r. ⌜ RefusedTen (now (sheet .entry)) (now (words .entry)) (numberIn r) ⌝ }
-    ensures eleven { λ r. ⌜ RefusedEleven (now (sheet .entry)) (now (words .entry)) (numberIn r) ⌝ }
-    ensures twelve { λ r. ⌜ RefusedTwelve (now (sheet .entry)) (now (plan .entry)) (now (words .entry)) (numberIn r) ⌝ }
-    ensures accepted { λ r. ⌜ AcceptedWhen (now (sheet .entry)) (now (plan .entry)) (now (words .entry)) (numberIn r) ⌝ }
-    ensures ample { λ r. ⌜ AmpleAccepted (now (sheet .entry)) (now (plan .entry)) (now (words .entry)) (numberIn r) ⌝ }
-    ensures chosen { λ r. ⌜ ReturnsChosen (now (sheet .entry)) (numberIn r) (totalIn r) (now (plan .exit)) ⌝ }
-    ensures cheapest { λ _. ⌜ LendsCheapest (now (sheet .entry)) (now (words .entry)) (now (words .exit)) ⌝ }
-    ensures priced { λ r. ⌜ PricedAsPrinted (now (sheet .entry)) (numberIn r) (totalIn r) (now (plan .exit)) ⌝ }
-    ensures near { λ r. ⌜ PrintedNear (now (sheet .entry)) (numberIn r) (totalIn r) (now (plan .exit)) ⌝ }
-    ensures far { λ r. ⌜ NoneFarBelow (now (sheet .entry)) (numberIn r) (now (plan .exit)) ⌝ }
-    ensures left { λ r. ⌜ Leaves (numberIn r) (now (plan .entry)) (now (words .entry)) (now (plan .exit)) (now (words .exit)) ⌝ }
+    ensures promised { λ r. ⌜ Promised (now (sheet .entry)) (now (plan .entry)) (now (words .entry)) (answerIn r) (now (plan .exit)) (now (words .exit)) ⌝ }
 {
     pack(planner::plan(sheet, plan, words))
 }

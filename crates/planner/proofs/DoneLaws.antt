@@ -1,29 +1,35 @@
 -- When a plan was written (`done`): the total answered is the chain's (`done-sum`); from the buffer, whose length is kept (`done-length`), the
--- chain is read (`done-decode`), its count and total (`done-count`, `done-field`) and its bytes (`done-bytes`). What each way leaves of the
--- buffers (`way-leaves`). Assumes nothing.
-use Prim.Native.Nat.{ℕ, _≤_}
-use mathlib.Core.Path.{_≡_, ap, _∙_}
+-- chain is read (`done-decode`), its count and total (`done-count`, `done-field`) and its bytes (`done-bytes`). So the chain that is read is
+-- the chosen one (`done-returned`), its bytes are priced at its total (`done-priced`), which is near its exact value (`done-near`), and no chain
+-- is far below that (`done-far`). Assumes nothing.
+use Prim.Native.Nat.{ℕ, _+_, _*_, _≤_}
+use mathlib.Core.Path.{_≡_, ap, sym, subst, _∙_}
 use mathlib.Core.List.{List}
 use native.Mathlib.Omega.{arith}
 use lib.ListN.{length, getD, take}
 use lib.Seq.{length-sets}
+use Rattle.base.specs.Answer.{accepted}
 use Rattle.base.specs.declared.Answer.{Answer}
 use Rattle.base.proofs.StoreLaws.{written-behind}
 use Rattle.sheet.specs.Sheet.{sheetOf}
-use Rattle.checking.proofs.PassesLaws.{checked-iff}
 use Rattle.checking.proofs.FitLaws.{fit}
-use Rattle.chain.specs.Chain.{Chain, roundedTotal}
+use Rattle.costing.specs.Error.{allowance}
+use Rattle.chain.specs.Chain.{Chain, Feasible, roundedTotal, exactValue}
+use Rattle.chain.specs.ChosenChain.{ChosenChain}
+use Rattle.chain.specs.Error.{denominator, TotalNear}
 use Rattle.chain.specs.PlanBytes.{planSize, encode, totalField, countField, decode, Narrow}
 use Rattle.chain.proofs.FeasibleLaws.{narrow-of-feasible}
 use Rattle.chain.proofs.TotalLaws.{roundedTotal-lt}
 use Rattle.chain.proofs.PlanBytesLaws.{encode-length}
 use Rattle.chain.proofs.ReadLaws.{written-total, written-count, written-plan, written-decode}
-use Rattle.tails.proofs.WordLaws.{tail-words-length}
-use Rattle.planning.specs.Planning.{found, planAnswer, planAfter, wordsAfter}
-use Rattle.planning.proofs.PlanningLaws.{words-lent}
-use Rattle.planner.specs.Promises.{Ready, Leaves}
-use Rattle.planner.specs.Ways.{Done, Way, faulty, few, none, short, written}
-use Rattle.planner.proofs.WayLaws.{numberOf, way, fault-some, done-of}
+use Rattle.chain.proofs.ChosenLaws.{chosen-chain-le, chosen-chain-only}
+use Rattle.chain.proofs.ErrorOfChain.{total-near, chain-loss}
+use Rattle.pricing.specs.Pricing.{priced}
+use Rattle.pricing.proofs.PriceLaws.{priced-encode}
+use Rattle.planning.specs.Planning.{found, planAnswer, planAfter}
+use Rattle.planner.specs.Promises.{Returned}
+use Rattle.planner.specs.Ways.{Done}
+use Rattle.planner.proofs.WayLaws.{way, done-of}
 
 module _ (s plan words : List ℕ) where
   pub done : planAnswer s plan words .number ≡ 0 → Done s plan words
@@ -57,7 +63,7 @@ module _ (s plan words : List ℕ) where
     done-bytes =
         ap (λ (l : List ℕ). take (planSize (countField l)) l) (d .written) ∙ written-plan plan units chain (d .room) narrow
 
-    done-behind : (k : ℕ) → planSize (countField (planAfter s plan words)) ≤ k → getD (planAfter s plan words) k 0 ≡ getD plan k 0
+    pub done-behind : (k : ℕ) → planSize (countField (planAfter s plan words)) ≤ k → getD (planAfter s plan words) k 0 ≡ getD plan k 0
     done-behind k l =
         ap (λ (l : List ℕ). getD l k 0) (d .written)
         ∙ written-behind plan (encode units chain) (omega (arith, d .room, encode-length units chain)) k
@@ -66,39 +72,31 @@ module _ (s plan words : List ℕ) where
     pub done-length : length (planAfter s plan words) ≡ length plan
     done-length = ap length (d .written) ∙ length-sets plan 0 (encode units chain)
 
-  lent-length : Ready s words → length (wordsAfter s plan words) ≡ length words
-  lent-length h = ap length (words-lent s plan words (checked-iff s .1 (h .passes)) (h .enough)) ∙ tail-words-length (sheetOf s) words
+    -- the chain in the written plan is the chosen one, and the only one; its total is the one printed
+    pub done-returned : Returned (sheetOf s) (planAnswer s plan words .total) (planAfter s plan words)
+    done-returned =
+        record {
+          whole = omega (arith, d .room, done-count, done-length);
+          chosen = subst (ChosenChain (sheetOf s)) (sym done-decode) (d .chosen);
+          least = λ c h. rw done-sum (chosen-chain-le (sheetOf s) chain (d .chosen) c h);
+          only = λ c h. chosen-chain-only (sheetOf s) c chain h (d .chosen) ∙ sym done-decode;
+          sum = done-sum ∙ ap (roundedTotal (sheetOf s)) (sym done-decode);
+          field = done-field ∙ sym done-sum;
+        }
 
-  -- a refusal after the words are written leaves the plan
-  refused-leaves :
-      (n : ℕ) → Ready s words → 11 ≤ n → planAfter s plan words ≡ plan → Leaves n plan words (planAfter s plan words) (wordsAfter s plan words)
-  refused-leaves n h late left =
-      record {
-        planLeft = λ z. left;
-        wordsLeft = λ l m. absurd (omega arith);
-        behind = λ z. absurd (omega arith);
-        lengths = (ap length left, lent-length h);
-      }
+    pub done-priced :
+        let after = planAfter s plan words in
+        priced s (take (planSize (countField after)) after) ≡ accepted (planAnswer s plan words .total)
+    done-priced =
+        ap (priced s) done-bytes ∙ priced-encode s (d .ready .passes) chain (d .chosen .feasible) _ ∙ ap accepted (sym done-sum)
 
-  -- one before that leaves both
-  early-leaves :
-      (n : ℕ) → 1 ≤ n → planAfter s plan words ≡ plan → wordsAfter s plan words ≡ words
-      → Leaves n plan words (planAfter s plan words) (wordsAfter s plan words)
-  early-leaves n some left kept =
-      record { planLeft = λ z. left; wordsLeft = λ l m. kept; behind = λ z. absurd (omega arith); lengths = (ap length left, ap length kept) }
+    pub done-near : TotalNear (sheetOf s) (decode (planAfter s plan words)) (planAnswer s plan words .total)
+    done-near = rw (done-decode, done-sum) (total-near (sheetOf s) (fit s (d .ready .passes)) chain (d .chosen .feasible))
 
-pub way-leaves :
-    {s plan words : List ℕ} → Way s plan words
-    → Leaves (planAnswer s plan words .number) plan words (planAfter s plan words) (wordsAfter s plan words)
-way-leaves {s} {plan} {words} (faulty f a l w) = early-leaves s plan words _ (fault-some s plan words a f) l w
-way-leaves {s} {plan} {words} (few h m a l w) = early-leaves s plan words _ (omega (arith, numberOf a)) l w
-way-leaves {s} {plan} {words} (none h f a l) = refused-leaves s plan words _ h (omega (arith, numberOf a)) l
-way-leaves {s} {plan} {words} (short h c r a l) = refused-leaves s plan words _ h (omega (arith, numberOf a)) l
-way-leaves {s} {plan} {words} (written d) =
-    let zero = numberOf (d .answer) in
-    record {
-      planLeft = λ z. absurd (z zero);
-      wordsLeft = λ l m. absurd (omega (arith, zero));
-      behind = λ z. done-behind s plan words d;
-      lengths = (done-length s plan words d, lent-length s plan words (d .ready));
-    }
+    pub done-far :
+        let p = sheetOf s in
+        (c : Chain) → Feasible p c
+        → 4 * exactValue p (decode (planAfter s plan words)) ≤ 4 * exactValue p c + 2 * (allowance (p .horizon) * denominator p)
+    done-far c h =
+        rw done-decode
+        (chain-loss (sheetOf s) (fit s (d .ready .passes)) chain c (d .chosen .feasible) h (chosen-chain-le (sheetOf s) chain (d .chosen) c h))

@@ -1,6 +1,6 @@
 -- In which way planning ends (`way`). Each number comes from one of the ways (`ten-of`, `eleven-of`, `twelve-of`, `done-of`; that of a faulty
 -- sheet is not 0, `fault-some`), and where its facts hold it is answered (`ten-when`, `eleven-when`, `twelve-when`, `zero-when`, `ample-when`).
--- Assumes nothing.
+-- A faulty sheet is answered as the check answers it (`way-checked`). Assumes nothing.
 use Prim.Native.Nat.{ℕ, _≤_, _<_}
 use mathlib.Core.Path.{_≡_, refl, ap, sym, subst, _∙_}
 use mathlib.Core.List.{List}
@@ -10,14 +10,14 @@ use lib.Dec.{leb, ltb, eqb}
 use lib.ListN.{length}
 use lib.Seq.{sets}
 use borrow.Author.Tests.{eqb-true, eqb-false, leb-true, leb-false, ltb-true, ltb-false}
-use Rattle.base.specs.Answer.{accepted}
+use Rattle.base.specs.Answer.{accepted, refused}
 use Rattle.base.specs.declared.Answer.{Answer}
 use Rattle.base.proofs.TestLaws.{by-test}
 use Rattle.sheet.specs.Sheet.{PlanningSheet, sheetOf}
 use Rattle.checking.specs.Refusals.{checked}
 use Rattle.checking.specs.Passes.{Passes}
 use Rattle.checking.proofs.PassesLaws.{checked-iff}
-use Rattle.checking.proofs.RangeLaws.{checked-number-le}
+use Rattle.checking.proofs.RangeLaws.{checked-total, checked-number-le}
 use Rattle.checking.proofs.FitLaws.{fit}
 use Rattle.choice.specs.Running.{noTotal}
 use Rattle.chain.specs.Chain.{Chain, Feasible}
@@ -30,7 +30,7 @@ use Rattle.front.specs.Planned.{planned}
 use Rattle.front.proofs.PlannedLaws.{planned-none, planned-chosen}
 use Rattle.planning.specs.Planning.{found, planAnswer}
 use Rattle.planning.proofs.PlanningLaws.{planning-none, planning-short, planning-fits, plan-refused, plan-few, plan-on}
-use Rattle.planner.specs.Promises.{Ready}
+use Rattle.planner.specs.Promises.{Ready, CheckedFirst}
 use Rattle.planner.specs.Ways.{Done, Way, faulty, few, none, short, written}
 
 pub numberOf : {a b : Answer} → a ≡ b → a .number ≡ b .number
@@ -176,3 +176,21 @@ module _ {s plan words : List ℕ} where
   done-of (none h f a l) e = absurd (omega (arith, numberOf a))
   done-of (short h c r a l) e = absurd (omega (arith, numberOf a))
   done-of (written d) e = d
+
+-- what comes with the number: the check's answer; or option 3, and total 0 unless a plan was written
+module _ {s : List ℕ} where
+  faulty-checked : (Passes s → ⊥) → CheckedFirst s (checked s)
+  faulty-checked f = record { faulty = λ _. refl; option = λ h. absurd (f h); total = λ _. checked-total s }
+
+  refused-checked : Passes s → (n : ℕ) → CheckedFirst s (refused n 3)
+  refused-checked h n = record { faulty = λ f. absurd (f h); option = λ _. refl; total = λ _. refl }
+
+  accepted-checked : Passes s → (total : ℕ) → CheckedFirst s (accepted total)
+  accepted-checked h total = record { faulty = λ f. absurd (f h); option = λ _. refl; total = λ z. absurd (z refl) }
+
+  pub way-checked : {plan words : List ℕ} → Way s plan words → CheckedFirst s (planAnswer s plan words)
+  way-checked (faulty f a l w) = subst (CheckedFirst s) (sym a) (faulty-checked f)
+  way-checked (few h l a b w) = subst (CheckedFirst s) (sym a) (refused-checked h 10)
+  way-checked (none h f a l) = subst (CheckedFirst s) (sym a) (refused-checked (h .passes) 11)
+  way-checked (short h c r a l) = subst (CheckedFirst s) (sym a) (refused-checked (h .passes) 12)
+  way-checked (written d) = subst (CheckedFirst s) (sym (d .answer)) (accepted-checked (d .ready .passes) _)

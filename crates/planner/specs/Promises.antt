@@ -1,17 +1,19 @@
--- What is owed of every call of planning, for every sheet and all buffers, whatever they held: demand 3, and what demand 2 says of planning.
--- Each is an `ensures` of the call and of its C form. In them:
+-- What is owed of every call of planning, for every sheet and all buffers, whatever they held: demand 3, and what demands 1 and 2 say of
+-- planning. `Promised` has them all, and is an `ensures` of the call and of its C form. In them:
 --     s, plan, words      the sheet, and what the plan buffer and the lent words held before the call
---     number, total      what was answered
+--     a, number, total      what was answered
 --     plan′, words′      what the buffers hold after the call
--- They speak of document 01's rules alone (`Passes`, `Feasible`, `roundedTotal`, `exactValue`) and of the order of choice, not of how a chain
--- is found. Definitions only.
+-- They speak of document 01's rules alone (`checked`, `Passes`, `Feasible`, `roundedTotal`, `exactValue`) and of the order of choice, not of how
+-- a chain is found. Definitions only.
 use Prim.Native.Nat.{ℕ, _+_, _*_, _≤_, _<_}
 use mathlib.Core.Path.{_≡_}
 use mathlib.Core.List.{List}
 use mathlib.Core.Logic.{_↔_}
 use lib.ListN.{length, getD, take}
 use Rattle.base.specs.Answer.{accepted}
+use Rattle.base.specs.declared.Answer.{Answer}
 use Rattle.sheet.specs.Sheet.{PlanningSheet, sheetOf}
+use Rattle.checking.specs.Refusals.{checked}
 use Rattle.checking.specs.Passes.{Passes}
 use Rattle.costing.specs.Error.{allowance}
 use Rattle.chain.specs.Chain.{Chain, Feasible, roundedTotal, exactValue}
@@ -26,6 +28,13 @@ use Rattle.tails.specs.Cheapest.{CheapestWords}
 pub record Ready (s words : List ℕ) : Type 0 where
   pub passes : Passes s
   pub enough : wordsNeeded ≤ length words
+
+-- A sheet that does not pass is answered as `check` answers it: the first of refusals 1 to 9, with its option. A sheet that passes gets option
+-- 3. With every refusal the total is 0.
+pub record CheckedFirst (s : List ℕ) (a : Answer) : Type 0 where
+  pub faulty : (Passes s → ⊥) → a ≡ checked s
+  pub option : Passes s → a .option ≡ 3
+  pub total : (a .number ≡ 0 → ⊥) → a .total ≡ 0
 
 -- 10 exactly where a sheet that passes comes with fewer than 602 words
 abbrev pub RefusedTen : (s words : List ℕ) (number : ℕ) → Type 0
@@ -84,9 +93,25 @@ NoneFarBelow s number plan′ =
     → (c : Chain) → Feasible p c
     → 4 * exactValue p (decode plan′) ≤ 4 * exactValue p c + 2 * (allowance (p .horizon) * denominator p)
 
--- A refused call leaves the plan buffer untouched; refusals 1 to 10 leave the words too. An accepted call leaves the bytes behind the plan.
+-- A refused call leaves the plan buffer untouched; the words are left unless the number is 0, 11 or 12. An accepted call leaves the bytes
+-- behind the plan.
 pub record Leaves (number : ℕ) (plan words plan′ words′ : List ℕ) : Type 0 where
   pub planLeft : (number ≡ 0 → ⊥) → plan′ ≡ plan
-  pub wordsLeft : 1 ≤ number → number ≤ 10 → words′ ≡ words
+  pub wordsLeft : (number ≡ 0 → ⊥) → (number ≡ 11 → ⊥) → (number ≡ 12 → ⊥) → words′ ≡ words
   pub behind : number ≡ 0 → (k : ℕ) → planSize (countField plan′) ≤ k → getD plan′ k 0 ≡ getD plan k 0
   pub lengths : (length plan′ ≡ length plan) × (length words′ ≡ length words)
+
+-- all of them, of what a call answered and left
+pub record Promised (s plan words : List ℕ) (a : Answer) (plan′ words′ : List ℕ) : Type 0 where
+  pub first : CheckedFirst s a
+  pub ten : RefusedTen s words (a .number)
+  pub eleven : RefusedEleven s words (a .number)
+  pub twelve : RefusedTwelve s plan words (a .number)
+  pub accepted : AcceptedWhen s plan words (a .number)
+  pub ample : AmpleAccepted s plan words (a .number)
+  pub chosen : ReturnsChosen s (a .number) (a .total) plan′
+  pub cheapest : LendsCheapest s words words′
+  pub priced : PricedAsPrinted s (a .number) (a .total) plan′
+  pub near : PrintedNear s (a .number) (a .total) plan′
+  pub far : NoneFarBelow s (a .number) plan′
+  pub left : Leaves (a .number) plan words plan′ words′

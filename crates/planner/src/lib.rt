@@ -2,7 +2,7 @@
 
 ghost use mathlib.Core.Path.{_≡_};
 ghost use Rattle.planning.specs.Planning.{planAnswer, planAfter, wordsAfter};
-ghost use Rattle.planner.specs.Promises.{RefusedTen, RefusedEleven, RefusedTwelve, AcceptedWhen, AmpleAccepted, ReturnsChosen, LendsCheapest, PricedAsPrinted, PrintedNear, NoneFarBelow, Leaves};
+ghost use Rattle.planner.specs.Promises.{Promised};
 use base::Answer;
 
 mod written;
@@ -12,17 +12,7 @@ pub fn plan(sheet: &[u8], plan: &mut [u8], words: &mut [u64]) -> Answer
     ensures answer { λ r. ⌜ r ≡ planAnswer (now (sheet .entry)) (now (plan .entry)) (now (words .entry)) ⌝ }
     ensures plan { λ _. ⌜ now (plan .exit) ≡ planAfter (now (sheet .entry)) (now (plan .entry)) (now (words .entry)) ⌝ }
     ensures words { λ _. ⌜ now (words .exit) ≡ wordsAfter (now (sheet .entry)) (now (plan .entry)) (now (words .entry)) ⌝ }
-    ensures ten { λ r. ⌜ RefusedTen (now (sheet .entry)) (now (words .entry)) (r .number) ⌝ }
-    ensures eleven { λ r. ⌜ RefusedEleven (now (sheet .entry)) (now (words .entry)) (r .number) ⌝ }
-    ensures twelve { λ r. ⌜ RefusedTwelve (now (sheet .entry)) (now (plan .entry)) (now (words .entry)) (r .number) ⌝ }
-    ensures accepted { λ r. ⌜ AcceptedWhen (now (sheet .entry)) (now (plan .entry)) (now (words .entry)) (r .number) ⌝ }
-    ensures ample { λ r. ⌜ AmpleAccepted (now (sheet .entry)) (now (plan .entry)) (now (words .entry)) (r .number) ⌝ }
-    ensures chosen { λ r. ⌜ ReturnsChosen (now (sheet .entry)) (r .number) (r .total) (now (plan .exit)) ⌝ }
-    ensures cheapest { λ _. ⌜ LendsCheapest (now (sheet .entry)) (now (words .entry)) (now (words .exit)) ⌝ }
-    ensures priced { λ r. ⌜ PricedAsPrinted (now (sheet .entry)) (r .number) (r .total) (now (plan .exit)) ⌝ }
-    ensures near { λ r. ⌜ PrintedNear (now (sheet .entry)) (r .number) (r .total) (now (plan .exit)) ⌝ }
-    ensures far { λ r. ⌜ NoneFarBelow (now (sheet .entry)) (r .number) (now (plan .exit)) ⌝ }
-    ensures left { λ r. ⌜ Leaves (r .number) (now (plan .entry)) (now (words .entry)) (now (plan .exit)) (now (words .exit)) ⌝ }
+    ensures promised { λ r. ⌜ Promised (now (sheet .entry)) (now (plan .entry)) (now (words .entry)) r (now (plan .exit)) (now (words .exit)) ⌝ }
 {
     let checked = checking::check(sheet);
     if checked.number != 0 {

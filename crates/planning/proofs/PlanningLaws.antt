@@ -5,7 +5,6 @@ use Prim.Native.Nat.{ℕ, _≤_, _<_}
 use mathlib.Core.Path.{_≡_, sym, _∙_}
 use mathlib.Core.Bool.{true, false}
 use mathlib.Core.List.{List}
-use native.Mathlib.Nat.{pos-of-ne-zero}
 use native.Mathlib.Omega.{arith}
 use lib.Dec.{ltb, eqb}
 use lib.ListN.{length}
@@ -55,38 +54,35 @@ planning-touches p room =
     by-test (eqb (planned p .total) noTotal) (λ t. rw t)
     (λ t. by-test (ltb room (planLength (found p))) (λ u. rw (t, u)) (λ u. rw (t, u)))
 
--- 1 to 10: they are not
-not-touched : (number : ℕ) → 1 ≤ number → number ≤ 10 → wordsTouched number ≡ false
-not-touched number some few =
-    rw (ne-eqb number 0 (λ e. omega arith), ne-eqb number 11 (λ e. omega arith), ne-eqb number 12 (λ e. omega arith))
+-- unless it is one of these they are not
+not-touched : (number : ℕ) → (number ≡ 0 → ⊥) → (number ≡ 11 → ⊥) → (number ≡ 12 → ⊥) → wordsTouched number ≡ false
+not-touched number zero eleven twelve = rw (ne-eqb number 0 zero, ne-eqb number 11 eleven, ne-eqb number 12 twelve)
 
 module _ (s plan words : List ℕ) where
   -- what a whole call answers, and what its buffers then hold
   abbrev pub Outcome : Answer → (plan′ words′ : List ℕ) → Type 0
   Outcome a plan′ words′ = (a ≡ planAnswer s plan words) × (plan′ ≡ planAfter s plan words) × (words′ ≡ wordsAfter s plan words)
 
-  -- an answer from 1 to 10 leaves both
-  outcome-left : (a : Answer) → a ≡ planAnswer s plan words → 1 ≤ a .number → a .number ≤ 10 → Outcome a plan words
+  -- unless the number is 0, 11 or 12 both are left
+  outcome-left :
+      (a : Answer) → a ≡ planAnswer s plan words → (a .number ≡ 0 → ⊥) → (a .number ≡ 11 → ⊥) → (a .number ≡ 12 → ⊥) → Outcome a plan words
   unfolding planAfter wordsAfter
-  outcome-left a e some few = (
-    e,
-    rw (← e, ne-eqb (a .number) 0 (λ z. omega arith)),
-    rw (← e, not-touched (a .number) some few),
-  )
+  outcome-left a e zero eleven twelve =
+      (e, rw (← e, ne-eqb (a .number) 0 zero), rw (← e, not-touched (a .number) zero eleven twelve))
 
   pub plan-refused : (a : Answer) → a ≡ checked s → (a .number ≡ 0 → ⊥) → Outcome a plan words
   unfolding planAnswer
   plan-refused a e h =
       let some : checked s .number ≡ 0 → ⊥ = rw e at h in
       let few = checked-number-le s in
-      outcome-left a (e ∙ sym (orElse-stop (checked s) _ some)) (pos-of-ne-zero h) (rw e (omega arith))
+      outcome-left a (e ∙ sym (orElse-stop (checked s) _ some)) h (rw e (λ z. omega arith)) (rw e (λ z. omega arith))
 
   module _ (passed : checked s .number ≡ 0) where
     pub plan-few : length words < wordsNeeded → Outcome (refused 10 3) plan words
     unfolding planAnswer
     plan-few l =
         let u = lt-leb wordsNeeded (length words) l in
-        outcome-left (refused 10 3) (sym (orElse-pass (checked s) _ passed ∙ rw u)) (omega arith) (omega arith)
+        outcome-left (refused 10 3) (sym (orElse-pass (checked s) _ passed ∙ rw u)) (λ z. omega arith) (λ z. omega arith) (λ z. omega arith)
 
     module _ (enough : wordsNeeded ≤ length words) where
       planning-answered : planning (sheetOf s) (length plan) ≡ planAnswer s plan words

@@ -9,7 +9,6 @@ use Rattle.base.specs.declared.Answer.{Answer}
 use Rattle.steps.specs.Cases.{casesOneToFive}
 use Rattle.costing.specs.CaseSheets.{sheet9, sheet10, sheet11, sheet12, freeSheet}
 use Rattle.costing.specs.Cases.{casesSixToEight}
-use Rattle.choice.specs.Running.{noTotal}
 use Rattle.chain.specs.CasePlans.{planOf}
 use Rattle.planning.specs.Planning.{planAnswer, planAfter, wordsAfter}
 
@@ -73,6 +72,6 @@ casesOfPlanning =
     -- the words are written on 0, 11 and 12, and left on 10
     ∷ wordsCase sheet12 23 602 240_000 2
     ∷ wordsCase sheet12 22 602 240_000 2
-    ∷ wordsCase sheet9 23 602 noTotal 0
+    ∷ wordsCase sheet9 23 602 18_446_744_073_709_551_615 0
     ∷ wordsCase sheet12 23 601 0 0
     ∷ []

@@ -39,8 +39,7 @@ wordsEnough words = leb wordsNeeded (length words)
 unfoldable pub planAnswer : (sheet plan words : List ℕ) → Answer
 planAnswer s plan words = checked s orElse cond (wordsEnough words) (planning (sheetOf s) (length plan)) (refused 10 3)
 
--- The table's column 'Left': an accepted call writes the plan, every refusal leaves it. The words are written on 0, 11 and 12; refusals 1 to
--- 10 leave them.
+-- The table's column 'Left': an accepted call writes the plan, every refusal leaves it. The words are left unless the number is 0, 11 or 12.
 abbrev pub planTouched : ℕ → Bool
 planTouched number = eqb number 0
 

@@ -1,19 +1,20 @@
 -- What `priced` answers: the ways in which `price` ends, when it accepts and at which total (`priced-iff`, `priced-encode`), how near that
--- total is to the exact value (`priced-near`), and the range of the answer. Assumes nothing.
-use Prim.Native.Nat.{ℕ, _<_}
+-- total is to the exact value (`priced-near`), and the range of the answer (`priced-number-le`, `priced-packs`). Assumes nothing.
+use Prim.Native.Nat.{ℕ, _≤_, _<_}
 use mathlib.Core.Path.{_≡_, refl, ap, sym, subst, _∙_}
 use mathlib.Core.List.{List}
 use mathlib.Core.Bool.{Bool, true, false}
 use mathlib.Core.Logic.{_↔_}
 use native.Mathlib.Omega.{arith}
 use lib.ListN.{length, getD}
-use Rattle.base.specs.Answer.{accepted, refused, InTable, totalBound}
+use Rattle.base.specs.Answer.{accepted, refused, Packs}
 use Rattle.base.specs.declared.Answer.{Answer}
+use Rattle.base.proofs.CallLaws.{call-refused, call-stopped, call-passed, call-iff, call-accepted, call-number-le, call-packs}
 use Rattle.sheet.specs.Sheet.{sheetOf}
 use Rattle.checking.specs.Refusals.{checked}
 use Rattle.checking.specs.Passes.{Passes}
 use Rattle.checking.proofs.PassesLaws.{checked-iff}
-use Rattle.checking.proofs.CallLaws.{call-refused, call-stopped, call-passed, call-iff, call-total, call-range, call-lt}
+use Rattle.checking.proofs.RangeLaws.{checked-number-le, checked-packs}
 use Rattle.checking.proofs.FitLaws.{fit}
 use Rattle.chain.specs.Chain.{Chain, Feasible, roundedTotal}
 use Rattle.chain.specs.Error.{TotalNear}
@@ -37,26 +38,26 @@ module _ (s plan : List ℕ) where
   -- the ways out: refused by the check, no plan of a feasible chain, such a plan
   pub price-refused : (a : Answer) → a ≡ checked s → (a .number ≡ 0 → ⊥) → a ≡ priced s plan
   unfolding priced pricing
-  price-refused = call-refused s rule 14 units
+  price-refused = call-refused (checked s) rule 14 units
 
   pub price-unfit : checked s .number ≡ 0 → fitting (sheetOf s) plan ≡ false → refused 14 3 ≡ priced s plan
   unfolding priced pricing
-  price-unfit = call-stopped s rule 14 units
+  price-unfit = call-stopped (checked s) rule 14 units
 
   pub price-fit :
       checked s .number ≡ 0 → fitting (sheetOf s) plan ≡ true → accepted (roundedTotal (sheetOf s) (decode plan)) ≡ priced s plan
   unfolding priced pricing
-  price-fit = call-passed s rule 14 units
+  price-fit = call-passed (checked s) rule 14 units
 
   -- accepted exactly when the sheet passes its checks and the plan has the shape and holds a feasible chain
   accepted-iff : (priced s plan .number ≡ 0) ↔ (Passes s × (Shaped plan × Feasible (sheetOf s) (decode plan)))
   unfolding priced pricing
-  accepted-iff = call-iff s rule 14 units (omega arith) (fitting-iff (sheetOf s) plan)
+  accepted-iff = call-iff (checked s) rule 14 units (omega arith) (checked-iff s) (fitting-iff (sheetOf s) plan)
 
-  -- with the total of the chain that the plan holds
-  accepted-total : priced s plan .number ≡ 0 → priced s plan .total ≡ roundedTotal (sheetOf s) (decode plan)
+  -- with 0, 3 and the total of the chain that the plan holds
+  pub priced-accepted : priced s plan .number ≡ 0 → priced s plan ≡ accepted (roundedTotal (sheetOf s) (decode plan))
   unfolding priced pricing
-  accepted-total = call-total s rule 14 units (omega arith)
+  priced-accepted = call-accepted (checked s) rule 14 units (omega arith)
 
   -- bytes that encode a feasible chain of a sheet that passes, with any total field, are priced at its rounded total
   encoded-priced :
@@ -83,7 +84,7 @@ module _ (s plan : List ℕ) where
           feasible = h .1 .1;
           field = totalField plan;
           encoded = sym (encode-decode plan (h .1 .0) byte);
-          sum = sym (e .1) ∙ accepted-total (e .0);
+          sum = sym (e .1) ∙ ap (λ (a : Answer). a .total) (priced-accepted (e .0));
         },
     λ h.
         let e = encoded-priced (h .passes) (h .chain) (h .feasible) _ (h .encoded) in
@@ -93,7 +94,7 @@ module _ (s plan : List ℕ) where
   priced-near : priced s plan .number ≡ 0 → TotalNear (sheetOf s) (decode plan) (priced s plan .total)
   priced-near e =
       let h = accepted-iff .0 e in
-      rw (accepted-total e) (total-near (sheetOf s) (fit s (h .0)) (decode plan) (h .1 .1))
+      rw (priced-accepted e) (total-near (sheetOf s) (fit s (h .0)) (decode plan) (h .1 .1))
 
   -- what was answered, when it is an acceptance with a total, and how near that total then is
   pub price-answers :
@@ -104,16 +105,15 @@ module _ (s plan : List ℕ) where
       × (a .number ≡ 0 → TotalNear (sheetOf s) (decode plan) (a .total)))
   price-answers byte a e = (e, (rw e (priced-iff byte), rw e priced-near))
 
-  pub priced-range : InTable (priced s plan)
+  pub priced-number-le : priced s plan .number ≤ 14
   unfolding priced pricing
-  priced-range = call-range s rule 14 units (omega arith)
+  priced-number-le = call-number-le (checked s) rule 14 units 14 (omega (arith, checked-number-le s)) (omega arith)
 
-  -- the total and the number fit in 64 bits together
-  pub priced-lt : priced s plan .total < totalBound
+  pub priced-packs : Packs (priced s plan)
   unfolding priced pricing
-  priced-lt =
-      call-lt s rule 14 units totalBound (omega arith)
-      (λ h e. roundedTotal-lt (sheetOf s) (fit s h) (decode plan) (fitting-iff (sheetOf s) plan .0 e .1))
+  priced-packs =
+      call-packs (checked s) rule 14 units (checked-packs s) (omega arith)
+      (λ z e. roundedTotal-lt (sheetOf s) (fit s (checked-iff s .0 z)) (decode plan) (fitting-iff (sheetOf s) plan .0 e .1))
 
 -- so the encoding of every feasible chain is priced at its rounded total, whatever its total field says
 pub priced-encode :

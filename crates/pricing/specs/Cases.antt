@@ -2,11 +2,13 @@
 -- hand from the rules, and plans that are refused. The bytes are written out, not encoded. Definitions only.
 use Prim.Native.Nat.{ℕ}
 use mathlib.Core.List.{List, [], _∷_, _++_}
+use lib.ListN.{take, replicate}
+use lib.Seq.{sets}
 use Rattle.base.specs.Answer.{accepted, refused}
 use Rattle.base.specs.Cases.{Case}
 use Rattle.base.specs.declared.Answer.{Answer}
-use Rattle.costing.specs.CaseSheets.{sheet11, sheet12}
-use Rattle.chain.specs.CasePlans.{replacing}
+use Rattle.costing.specs.CaseSheets.{sheet11, sheet12, freeSheet}
+use Rattle.chain.specs.CasePlans.{planOf, replacing}
 use Rattle.pricing.specs.Pricing.{priced}
 
 abbrev pub pricedCase : (sheet plan : List ℕ) (units : ℕ) → Case
@@ -14,6 +16,10 @@ pricedCase sheet plan units = record { Figure = Answer; given = priced sheet pla
 
 abbrev pub refusedCase : (sheet plan : List ℕ) → Case
 refusedCase sheet plan = record { Figure = Answer; given = priced sheet plan; expected = refused 14 3 }
+
+-- maintaining to 2 and renovating to 3, T of the sheets with nothing to pay
+abbrev pub unreplaced : List ℕ
+unreplaced = planOf (replicate 8 0) 2 3 []
 
 abbrev pub casesOfPricing : List Case
 casesOfPricing =
@@ -30,4 +36,10 @@ casesOfPricing =
     ∷ refusedCase sheet12 (replacing 0 (2 ∷ 2 ∷ 4 ∷ []))
     ∷ refusedCase sheet12 (replacing 0 (4 ∷ []))
     ∷ refusedCase sheet12 (replacing 0 (2 ∷ 4 ∷ []) ++ (0 ∷ []))
+    -- the mark of a sheet; version 2
+    ∷ refusedCase sheet12 (sets (replacing 0 (2 ∷ 4 ∷ [])) 2 (83 ∷ []))
+    ∷ refusedCase sheet12 (sets (replacing 0 (2 ∷ 4 ∷ [])) 3 (2 ∷ []))
+    -- no replacement: 19 bytes, and one too few
+    ∷ pricedCase (freeSheet 1 2 1 1 1 1) unreplaced 0
+    ∷ refusedCase (freeSheet 1 2 1 1 1 1) (take 18 unreplaced)
     ∷ []

@@ -15,7 +15,6 @@ use Rattle.checking.proofs.PassesLaws.{checked-iff}
 use Rattle.chain.specs.Chain.{Chain, Feasible, roundedTotal}
 use Rattle.chain.specs.PlanBytes.{planLength}
 use Rattle.chain.proofs.FeasibleLaws.{few-ends}
-use Rattle.chain.proofs.ChosenLaws.{chosen-chain-only}
 use Rattle.tails.specs.Words.{wordsNeeded}
 use Rattle.planning.specs.Planning.{found, planAnswer, planAfter}
 use Rattle.planner.specs.Ways.{Done, Way, faulty, few, none, short, written}
@@ -73,14 +72,14 @@ module _ (s : List ℕ) where
       record {
         refused = λ n. absurd (n (h .passes));
         none = λ _ _. shown-refusal (refused 11 3) _ (sym a) refl (λ e. omega arith);
-        chosen = λ _ c k. absurd (f c (k .feasible));
+        chosen = λ _ c k. absurd (f c k);
       }
   shows-way (short h c l a b) = absurd (omega (arith, ready-room (h .passes) (found (sheetOf s)) (c .feasible)))
   shows-way (written d) =
       record {
         refused = λ n. absurd (n (d .ready .passes));
         none = λ _ f. absurd (f (found (sheetOf s)) (d .chosen .feasible));
-        chosen = λ _ c k. rw (chosen-chain-only (sheetOf s) c (found (sheetOf s)) k (d .chosen)) (shown-lines d);
+        chosen = λ _ _ _. (found (sheetOf s), (d .chosen, shown-lines d));
       }
 
   pub shows : Shows s (shown s)

@@ -42,8 +42,11 @@ unfoldable pub textLength : (sheet text : List ℕ) → ℕ
 textLength s text = cond (roomy text) (length (shown s)) 0
 
 -- What is owed of every sheet, with no word of how a chain is found: a sheet that does not pass the checks is printed as its refusal, one
--- that passes and has no feasible chain as refusal 11, any other as the chosen chain with its rounded total.
+-- that passes and has no feasible chain as refusal 11; and as soon as some chain is feasible there is a chosen one, which is printed with its
+-- rounded total.
 pub record Shows (s text′ : List ℕ) : Type 0 where
   pub refused : (Passes s → ⊥) → text′ ≡ refusedLine (checked s .number) (checked s .option)
   pub none : Passes s → ((c : Chain) → Feasible (sheetOf s) c → ⊥) → text′ ≡ refusedLine 11 3
-  pub chosen : Passes s → (c : Chain) → ChosenChain (sheetOf s) c → text′ ≡ planLines (roundedTotal (sheetOf s) c) c
+  pub chosen :
+      Passes s → (c : Chain) → Feasible (sheetOf s) c
+      → (d : Chain) × (ChosenChain (sheetOf s) d × (text′ ≡ planLines (roundedTotal (sheetOf s) d) d))

@@ -10,7 +10,7 @@ use lib.Pow.{pow-add}
 use Rattle.base.specs.Lists.{Every, sumOf}
 use Rattle.steps.specs.Step.{repeated}
 use Rattle.steps.specs.Payment.{Payment, year, rounded}
-use Rattle.steps.specs.Exact.{Fraction, _over_, scaled, exactPlain, exactInService, unrounded, common, exact}
+use Rattle.steps.specs.Exact.{Fraction, _over_, scaled, exactPlain, exactInService, unrounded, common, exact, Whole}
 use Rattle.steps.specs.Error.{NearBy, halves, PaymentNear}
 use Rattle.steps.specs.Fit.{Rates, Sound}
 use Rattle.steps.proofs.ErrorOfRounding.{near-start, near-weaken, near-lift, near-add}
@@ -70,10 +70,8 @@ unrounded-divides horizon discount p h =
     (repeated-divides discount served (inService-divides (p .grow) (p .age) discount) (p .served) (left + p .plainly)
     (repeated (p .plainly) plainly start) moved)
 
--- the exact value over the common denominator is the fraction
-pub exact-whole :
-    (horizon discount : ℕ) (p : Payment) → year p ≤ horizon
-    → exact horizon discount p * unrounded discount p .denominator ≡ unrounded discount p .numerator * common horizon discount
+-- for every payment by year T
+pub exact-whole : (horizon discount : ℕ) (p : Payment) → year p ≤ horizon → Whole horizon discount p
 unfolding exact
 exact-whole horizon discount p h = rw (mul-assoc, div-mul-cancel _ (unrounded-divides horizon discount p h))
 

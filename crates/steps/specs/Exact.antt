@@ -1,5 +1,6 @@
 -- The same present value without rounding: document 01, 'One year's step', its last paragraph. Definitions only.
 use Prim.Native.Nat.{ℕ, _*_, _/_, _^_}
+use mathlib.Core.Path.{_≡_}
 use Rattle.steps.specs.Step.{repeated}
 use Rattle.steps.specs.Payment.{Payment}
 
@@ -34,8 +35,14 @@ unrounded discount p =
 unfoldable pub common : (horizon discount : ℕ) → ℕ
 common horizon discount = 10 ^ (6 * horizon) * discount ^ horizon
 
--- a payment's present value over the common denominator: a whole number, which `exact-whole` shows for every payment by year T
+-- a payment's present value over the common denominator: a whole number, as `Whole` says
 unfoldable pub exact : (horizon discount : ℕ) → Payment → ℕ
 exact horizon discount p =
     let x = unrounded discount p in
     x .numerator * (common horizon discount / x .denominator)
+
+-- over the common denominator the exact value is the fraction: the division leaves no rest
+abbrev pub Whole : (horizon discount : ℕ) → Payment → Type 0
+Whole horizon discount p =
+    let x = unrounded discount p in
+    exact horizon discount p * x .denominator ≡ x .numerator * common horizon discount

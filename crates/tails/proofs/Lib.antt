@@ -1,9 +1,11 @@
 -- The laws of tails, in reading order; a file cites only files above it.
 --     CaseLaws: the words of document 01's sheets, straight from the definitions
+--     CheapestLaws: what is promised of year T
 --     TailLaws: each entry of the table is the one that document 01 asks
 --     WordLaws: the words written from T down, and what they promise after planning
 --     YearLaws: the choice from a year, by the words of the later years, is the table's
 pub mod CaseLaws
+pub mod CheapestLaws
 pub mod TailLaws
 pub mod WordLaws
 pub mod YearLaws

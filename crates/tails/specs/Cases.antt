@@ -4,7 +4,6 @@ use mathlib.Core.List.{List, [], _∷_, map}
 use Rattle.base.specs.Cases.{Case}
 use Rattle.sheet.specs.Sheet.{sheetOf}
 use Rattle.costing.specs.CaseSheets.{noOverhaul, arcSheet, sheet9, sheet10, sheet11, sheet12}
-use Rattle.choice.specs.Running.{noTotal}
 use Rattle.tails.specs.Words.{totalOf, firstEnd, tails}
 
 -- words 0 to T, and words 301 to 301 + T
@@ -16,12 +15,16 @@ wordsOfSheet sheet totals ends =
       expected = (totals, ends);
     }
 
+-- the total where no replacements lead to T: 2^64 − 1, written out
+abbrev pub absent : ℕ
+absent = 18_446_744_073_709_551_615
+
 abbrev pub casesOfTails : List Case
 casesOfTails =
     -- replacements lead to 5 only from 1, 2 and 5 itself
-    wordsOfSheet sheet9 (noTotal ∷ 0 ∷ 0 ∷ noTotal ∷ noTotal ∷ 0 ∷ []) (0 ∷ 5 ∷ 5 ∷ 0 ∷ 0 ∷ 0 ∷ [])
+    wordsOfSheet sheet9 (absent ∷ 0 ∷ 0 ∷ absent ∷ absent ∷ 0 ∷ []) (0 ∷ 5 ∷ 5 ∷ 0 ∷ 0 ∷ 0 ∷ [])
     -- from 0, ends 3, 7 and 4, 7 have the same total: the later first end is taken
-    ∷ wordsOfSheet sheet10 (0 ∷ 0 ∷ noTotal ∷ 0 ∷ 0 ∷ noTotal ∷ noTotal ∷ 0 ∷ []) (4 ∷ 4 ∷ 0 ∷ 7 ∷ 7 ∷ 0 ∷ 0 ∷ 0 ∷ [])
+    ∷ wordsOfSheet sheet10 (0 ∷ 0 ∷ absent ∷ 0 ∷ 0 ∷ absent ∷ absent ∷ 0 ∷ []) (4 ∷ 4 ∷ 0 ∷ 7 ∷ 7 ∷ 0 ∷ 0 ∷ 0 ∷ [])
     ∷ wordsOfSheet sheet11 (30_000 ∷ 20_000 ∷ 10_000 ∷ 0 ∷ []) (2 ∷ 3 ∷ 3 ∷ 0 ∷ [])
     ∷ wordsOfSheet sheet12 (240_000 ∷ 230_000 ∷ 120_000 ∷ 110_000 ∷ 0 ∷ []) (2 ∷ 3 ∷ 4 ∷ 4 ∷ 0 ∷ [])
     -- with r 40,000 a later start costs less: from 1 it is case 6

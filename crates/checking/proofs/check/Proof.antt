@@ -6,13 +6,13 @@ use native.Mathlib.Omega.{arith}
 use lib.ListN.{length}
 use borrow.Author.Needs.{needs}
 use borrow.Author.Tests.{not-true, not-false}
-use Rattle.base.specs.Answer.{accepted, firstBelow}
-use Rattle.base.proofs.AnswerLaws.{first-zero}
+use Rattle.base.specs.Answer.{accepted}
 use Rattle.sheet.specs.Layout.{sheetLength}
 use Rattle.sheet.specs.Sheet.{sheetOf}
 use Rattle.sheet.specs.Parsed.{overhaulsOf, termsOf}
 use Rattle.sheet.specs.declared.Terms.{Terms}
-use Rattle.checking.specs.Refusals.{ageBefore, overhaulOk, headerNumber, fieldsNumber, overhaulAnswer, optionAnswer}
+use Rattle.checking.specs.Refusals.{ageBefore, overhaulOk, headerNumber, fieldsNumber, overhaulAnswer, firstBelow, optionAnswer}
+use Rattle.checking.proofs.FirstLaws.{first-zero}
 use Rattle.checking.proofs.RuleLaws.{age-before-zero, age-before-suc, entry-tested}
 use Rattle.checking.proofs.PassesLaws.{header-iff}
 use Rattle.checking.proofs.CheckLaws.{check-answers, discount-small, next-overhaul, next-option, header-refused, all-passed, fields-refused, overhaul-refused}
@@ -109,7 +109,7 @@ loop-less c = search needs
 loop-again : tie.Need-loop-again Inv-loop μ-loop Inv-options μ-options
 loop-again c = (
   omega arith,
-  age-before-suc _ _ _ (c .before .before .before .age-of .ensures),
+  (omega arith) ∙ age-before-suc _ _ (c .before .before .before .age-of .result) (c .before .before .before .age-of .ensures),
   next-overhaul _ _ _ (c .before .before .before .before .before .loop .inv .2) (sym (entry-found (c .before)) ∙ not-false (c .before .entry-ok .result) (c .if4 .left)),
 )
 

@@ -1,9 +1,9 @@
 -- `nimovalsa_plan` returns what `plan` answers, and leaves what it leaves; the promises follow for what was returned. Assumes nothing.
-use mathlib.Core.Path.{sym, subst}
+use mathlib.Core.Path.{_∙_}
 use denote.Ref.{now}
 use borrow.Author.Needs.{needs}
-use Rattle.planner.proofs.RangeLaws.{Small, plan-small}
-use Rattle.planner.proofs.Demands.{promised}
+use Rattle.planner.proofs.RangeLaws.{plan-packs}
+use Rattle.planner.proofs.Demands.{promised-of}
 use Rattle.nimovalsa.proofs.PackedLaws.{returns-same}
 use Rattle.nimovalsa.proofs.nimovalsa_plan.Statement.{statement}
 use Rattle.nimovalsa.proofs.nimovalsa_plan.Tie as tie
@@ -13,13 +13,9 @@ returns c =
     let k = c .before .before .before .before .before in
     let a = (k .before .before .before .before .before .before) .args in
     let h = k .plan .ensures in
-    let r = returns-same (h .0) (c .pack .ensures) in (
-      r,
-      (
-        h .1 .0,
-        (h .1 .1 .0, promised (now (a .sheet)) (now (a .plan)) (now (a .words)) (r .number) (r .total) (h .1 .0) (h .1 .1 .0)),
-      ),
-    )
+    let r = c .pack .ensures in
+    let promised = promised-of (now (a .sheet)) (now (a .plan)) (now (a .words)) (r .reads ∙ h .0) (h .1 .0) (h .1 .1 .0) in
+    (returns-same (h .0) r, (h .1 .0, (h .1 .1 .0, promised)))
 
 plan-requires : tie.Need-plan-requires
 plan-requires c κs = search needs
@@ -27,8 +23,7 @@ plan-requires c κs = search needs
 pack-requires : tie.Need-pack-requires
 pack-requires c κs =
     let h = c .before .before .before .before .plan .ensures in
-    let small = subst Small (sym (h .0)) (plan-small _ _ _) in
-    (small .table, small .total)
+    rw (h .0) (plan-packs _ _ _)
 
 same-length : tie.Need-same-length
 same-length c = search needs

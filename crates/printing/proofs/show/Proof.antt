@@ -45,7 +45,7 @@ returns-2 c =
     let zero = l .before .before .before .if2 .taken in
     let p = l .before .before .before .before .before .before .before in
     let planned = p .plan2 .ensures in
-    let whole = planned .1 .1 .1 .1 .1 .1 .1 .1 .0 zero .whole in
+    let whole = planned .1 .1 .1 .chosen zero .whole in
     let put = l .plan-lines .ensures in
     let lines = puts-of-lines _ _ whole (omega (arith, p .plan2 .kept .1 .0)) _ _ (put .0) (put .1 .0) (put .1 .1) in
     sheet-put _ _ (omega arith) _ _ (rw (shown-plan _ _ _ (planned .0) (planned .1 .0) zero) lines)

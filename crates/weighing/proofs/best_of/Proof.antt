@@ -1,7 +1,7 @@
 -- The choice of an end by what the arcs cost: the ends before n are weighed, and n is the next one that is not dearer, if there is one.
 -- Assumes nothing.
-use Prim.Native.Nat.{_+_, _-_, _≤_, _<_, min}
-use mathlib.Core.Path.{_≡_, _∙_}
+use Prim.Native.Nat.{ℕ, _+_, _-_, _≤_, _<_, min}
+use mathlib.Core.Path.{_≡_, ap, _∙_}
 use native.Mathlib.Omega.{arith}
 use lib.ListN.{getD}
 use denote.Ref.{now}
@@ -51,31 +51,32 @@ few i = omega (arith, lives i, start (entered i) .pre .0 .fits .terms .longest)
 
 -- the sum is that of the arc and the word
 both :
-    (i : tie.In-loop Inv-loop μ-loop)
+    (i : tie.In-loop Inv-loop μ-loop) (end : ℕ)
     → let s = start (entered i) in
     let n = i .before .loop .n in
-    getD (now (s .args .costs)) n 0 + getD (now (s .args .words)) (s .args .kept .from + n + 1) 0
+    end ≡ s .args .kept .from + (n + 1)
+    → getD (now (s .args .costs)) n 0 + getD (now (s .args .words)) end 0
     ≡ keptCost (s .args .kept) (s .args .kept .from + (n + 1)) + wordOf (now (s .args .words)) (s .args .kept .from + (n + 1))
-both i =
+both i end at =
     let s = start (entered i) in
-    sum-read (s .args .kept) (now (s .args .words)) (now (s .args .costs)) (s .args .horizon) (i .before .loop .n) (s .pre .0 .known) (lives i)
+    let n = i .before .loop .n in
+    let same : end ≡ s .args .kept .from + n + 1 = omega (arith, at) in
+    ap (λ (e : ℕ). getD (now (s .args .costs)) n 0 + getD (now (s .args .words)) e 0) same
+    ∙ sum-read (s .args .kept) (now (s .args .words)) (now (s .args .costs)) (s .args .horizon) n (s .pre .0 .known) (lives i)
     (omega (arith, inside i))
 
 -- the end that was found is taken
 taken :
-    (i : tie.In-loop Inv-loop μ-loop)
+    (i : tie.In-loop Inv-loop μ-loop) (end : ℕ)
     → let s = start (entered i) in
     let n = i .before .loop .n in
-    record {
-      total = getD (now (s .args .costs)) n 0 + getD (now (s .args .words)) (s .args .kept .from + n + 1) 0;
-      end = s .args .kept .from + n + 1;
-    }
+    end ≡ s .args .kept .from + (n + 1)
+    → record { total = getD (now (s .args .costs)) n 0 + getD (now (s .args .words)) end 0; end = end }
     ≡ bestAfter (s .args .kept) (wordOf (now (s .args .words))) (s .args .best) (n + 1)
-taken i =
+taken i end at =
     let s = start (entered i) in
     let loop = i .before .loop in
-    let end : s .args .kept .from + loop .n + 1 ≡ s .args .kept .from + (loop .n + 1) = omega arith in
-    (λ k. record { total = both i k; end = end k })
+    (λ k. record { total = both i end at k; end = at k })
     ∙ next-taken (s .args .kept) (wordOf (now (s .args .words))) (s .args .best) (loop .chosen) (loop .n) (loop .inv .2)
     (loop .inv .3 (i .loop-test .taken)) (loop .inv .1 (i .loop-test .taken)) (lives i)
 
@@ -88,7 +89,7 @@ loop-again c =
     let next = c .next-end2 .ensures in (
       next .to,
       λ l. omega (arith, old, next .from),
-      next-stays (s .args .kept) (wordOf (now (s .args .words))) (s .args .best) _ (n + 1) _ _ (taken i) next,
+      next-stays (s .args .kept) (wordOf (now (s .args .words))) (s .args .best) _ (n + 1) _ _ (taken i _ (omega arith)) next,
       next .found,
     )
 
@@ -158,7 +159,7 @@ add-total c =
     let most =
     end-room (s .args .kept) (s .pre .0 .fits) (s .args .horizon) end (short s) (omega arith) (inside i)
     (s .pre .1 .fits end (omega arith) (inside i) (i .before .loop .inv .3 (i .loop-test .taken) .0)) in
-    omega (arith, both i, most, short s)
+    omega (arith, both i (s .args .kept .from + i .before .loop .n + 1) (omega arith), most, short s)
 
 add-next-end : tie.Need-add-next-end Inv-loop μ-loop
 add-next-end c = omega (arith, few (c .before .before .before))

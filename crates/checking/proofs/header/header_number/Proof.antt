@@ -1,4 +1,5 @@
 -- The first of 1 to 4 of a sheet: each row is left by its number, or passed. Assumes nothing.
+use Prim.Native.Nat.{ℕ}
 use mathlib.Core.Path.{_≡_, ap, sym, _∙_}
 use mathlib.Core.Bool.{true, _&&_}
 use native.Mathlib.Omega.{arith}
@@ -16,18 +17,18 @@ use Rattle.checking.proofs.header.header_number.Tie as tie
 
 -- what the code tests of mark and version is row 2's rule
 mark :
-    (c : tie.After-mark-ok) →
+    (c : tie.After-mark-ok) (version : ℕ) → version ≡ 1 →
     let s = c .before .before .before .before .args .s .now in
-    (c .mark-ok .result && eqb (c .before .u16-at .result) 1) ≡ (markOk s && versionOk (sheetOf s .version))
+    (c .mark-ok .result && eqb (c .before .u16-at .result) version) ≡ (markOk s && versionOk (sheetOf s .version))
 unfolding sheetOf
-mark c = λ i. c .mark-ok .ensures i && versionOk (c .before .u16-at .ensures .0 i)
+mark c version same = λ i. c .mark-ok .ensures i && eqb (c .before .u16-at .ensures .0 i) (same i)
 
 -- the rules hold where the code goes on
 length-passed : (c : tie.Else1) → eqb (length (c .before .before .args .s .now)) sheetLength ≡ true
 length-passed c = eq-eqb (length (c .before .before .args .s .now)) sheetLength (omega arith)
 
 mark-passed : (c : tie.Else2) → let s = c .before .before .before .before .before .args .s .now in (markOk s && versionOk (sheetOf s .version)) ≡ true
-mark-passed c = sym (mark (c .before)) ∙ not-false _ (c .if2 .left)
+mark-passed c = sym (mark (c .before) _ (omega arith)) ∙ not-false _ (c .if2 .left)
 
 horizon-passed : (c : tie.Else3) → horizonOk (sheetOf (c .before .before .before .before .before .before .before .args .s .now) .horizon) ≡ true
 horizon-passed c = sym (ap horizonOk (c .before .horizon-of .ensures)) ∙ not-false _ (c .if3 .left)
@@ -52,7 +53,7 @@ mark-ok-requires c κs = search needs
 
 returns-2 : tie.Need-returns-2
 unfolding headerNumber
-returns-2 c = sym (unless-pass 1 _ (length-passed (c .before .before .before)) ∙ unless-stop 2 _ (sym (mark (c .before)) ∙ not-true _ (c .if2 .taken)))
+returns-2 c = sym (unless-pass 1 _ (length-passed (c .before .before .before)) ∙ unless-stop 2 _ (sym (mark (c .before) _ (omega arith)) ∙ not-true _ (c .if2 .taken)))
 
 horizon-of-requires : tie.Need-horizon-of-requires
 horizon-of-requires c κs = search needs

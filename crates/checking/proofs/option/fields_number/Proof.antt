@@ -56,7 +56,7 @@ lives-ok-requires c κs = search needs
 
 returns : tie.Need-returns
 unfolding fieldsNumber
-returns c = λ r o d t. sym (unless-stop 5 _ (sym (lives (c .before) o t) ∙ not-true _ (c .if1 .taken)))
+returns c = λ r o d t. (omega arith) ∙ sym (unless-stop 5 _ (sym (lives (c .before) o t) ∙ not-true _ (c .if1 .taken)))
 
 amounts-ok-requires : tie.Need-amounts-ok-requires
 amounts-ok-requires c κs = search needs
@@ -65,7 +65,7 @@ returns-2 : tie.Need-returns-2
 unfolding fieldsNumber
 returns-2 c =
     λ r o d t.
-    sym (unless-pass 5 _ (lives-passed (c .before .before) o t) ∙ unless-stop 6 _ (sym (amounts (c .before) o t) ∙ not-true _ (c .if2 .taken)))
+    (omega arith) ∙ sym (unless-pass 5 _ (lives-passed (c .before .before) o t) ∙ unless-stop 6 _ (sym (amounts (c .before) o t) ∙ not-true _ (c .if2 .taken)))
 
 inflations-ok-requires : tie.Need-inflations-ok-requires
 inflations-ok-requires c κs = search needs

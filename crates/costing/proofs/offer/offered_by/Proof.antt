@@ -1,10 +1,12 @@
 -- An arc is offered: first its place, then its length, which is taken only where the place is right. Assumes nothing.
-use mathlib.Core.Path.{_≡_, sym, _∙_}
+use Prim.Native.Nat.{ℕ, _-_}
+use mathlib.Core.Path.{_≡_, ap, sym, _∙_}
 use mathlib.Core.Bool.{true}
+use native.Mathlib.Omega.{arith}
 use borrow.Author.Needs.{needs}
 use borrow.Author.Tests.{not-true, not-false}
 use Rattle.base.proofs.TestLaws.{and-of-false, and-of-true}
-use Rattle.costing.specs.Offered.{placed}
+use Rattle.costing.specs.Offered.{placed, lengthOffered}
 use Rattle.costing.proofs.OfferedLaws.{placed-iff}
 use Rattle.costing.proofs.offer.offered_by.Statement.{statement}
 use Rattle.costing.proofs.offer.offered_by.Tie as tie
@@ -27,7 +29,11 @@ length-offered-requires : tie.Need-length-offered-requires
 length-offered-requires c κs = search needs
 
 returns-2 : tie.Need-returns-2
-returns-2 c = c .length-offered .ensures ∙ sym (and-of-true _ (well (c .before)))
+returns-2 c =
+    let a = c .before .before .before .args in
+    c .length-offered .ensures
+    ∙ ap (λ (longest : ℕ). lengthOffered (a .shortest) longest (a .option) (a .end - a .start)) (omega arith)
+    ∙ sym (and-of-true _ (well (c .before)))
 
 pub offered-by-spec : {M : Type 1} → statement M
 offered-by-spec =

@@ -1,5 +1,8 @@
 -- The test, as the definition has it; fewer than 19 bytes are not read. Assumes nothing.
 use mathlib.Core.Path.{refl}
+use native.Mathlib.Omega.{arith}
+use lib.ListN.{length}
+use denote.Ref.{now}
 use borrow.Author.Needs.{needs}
 use borrow.Author.Tests.{lt-leb, le-leb}
 use Rattle.chain.specs.PlanBytes.{shaped}
@@ -8,13 +11,13 @@ use Rattle.pricing.proofs.fitting.shaped.Tie as tie
 
 returns : tie.Need-returns
 unfolding shaped
-returns c = rw (lt-leb _ _ (c .if1 .taken)) refl
+returns c = rw (lt-leb 19 (length (now (c .before .before .args .plan))) (omega (arith, c .if1 .taken))) refl
 
 u16-at-requires : tie.Need-u16-at-requires
-u16-at-requires c κs = search needs
+u16-at-requires c κs = omega (arith, c .if1 .left)
 
 u16-at-requires-2 : tie.Need-u16-at-requires-2
-u16-at-requires-2 c κs = search needs
+u16-at-requires-2 c κs = omega (arith, c .before .if1 .left)
 
 mul-result : tie.Need-mul-result
 mul-result c = search needs
@@ -35,7 +38,7 @@ returns-2 : tie.Need-returns-2
 unfolding shaped
 returns-2 c =
     let d = c .before .before .before in
-    rw (le-leb _ _ (d .before .before .if1 .left), d .before .u16-at .ensures .0, d .u16-at2 .ensures .0) refl
+    rw (le-leb 19 (length (now (d .before .before .before .before .args .plan))) (omega (arith, d .before .before .if1 .left)), d .before .u16-at .ensures .0, d .u16-at2 .ensures .0) refl
 
 pub shaped-spec : {M : Type 1} → statement M
 shaped-spec =
