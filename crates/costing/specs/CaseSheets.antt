@@ -39,15 +39,16 @@ sheet11 = replaceSheet 3 0 1 2 0 1 noOverhaul
 abbrev pub sheet12 : List ℕ
 sheet12 = replaceSheet 4 0 1 3 10 1 (oneOverhaul 2 15)
 
--- a sheet with T = 9 and r 50,000 that offers all options, each with two overhauls: no two of its rates, of its amounts or of its lives are equal
+-- a sheet with T = 9 and r 50,000 that offers all options, each with two overhauls: no field is 0, no two fields of a record are equal, and no two
+-- rates, amounts or lives of the sheet
 abbrev pub distinctSheet : List ℕ
 distinctSheet =
     headerBytes 9 50_000
-    ++ recordBytes 3 6 (1_101 ∷ 11_000 ∷ 1_203 ∷ 12_000 ∷ 13_000 ∷ 1_307 ∷ 14_000 ∷ 15_000 ∷ 16_000 ∷ []) ((1, 1_409) ∷ (2, 1_511) ∷ [])
-    ++ recordBytes 4 7
+    ++ recordBytes 4 8 (1_101 ∷ 11_000 ∷ 1_203 ∷ 12_000 ∷ 13_000 ∷ 1_307 ∷ 14_000 ∷ 15_000 ∷ 16_000 ∷ []) ((1, 1_409) ∷ (3, 1_511) ∷ [])
+    ++ recordBytes 5 7
     (2_101 ∷ minus 21_000 ∷ 2_203 ∷ minus 22_000 ∷ 23_000 ∷ 2_307 ∷ minus 24_000 ∷ 25_000 ∷ minus 26_000 ∷ [])
-    ((1, 2_409) ∷ (3, 2_511) ∷ [])
-    ++ recordBytes 2 5 (3_101 ∷ 31_000 ∷ 3_203 ∷ minus 32_000 ∷ 33_000 ∷ 3_307 ∷ 4_000 ∷ 35_000 ∷ 36_000 ∷ []) ((2, 3_409) ∷ (3, 3_511) ∷ [])
+    ((3, 2_409) ∷ (4, 2_511) ∷ [])
+    ++ recordBytes 3 6 (3_101 ∷ 31_000 ∷ 3_203 ∷ minus 32_000 ∷ 33_000 ∷ 3_307 ∷ 4_000 ∷ 35_000 ∷ 36_000 ∷ []) ((1, 3_409) ∷ (4, 3_511) ∷ [])
 
 -- the same, option k not offered
 abbrev pub without : (k : ℕ) → List ℕ

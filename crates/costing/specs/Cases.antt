@@ -25,38 +25,38 @@ casesSixToEight =
 -- every field of a record goes into the arc's cost, in which both overhauls are paid; the totals were worked out apart from these definitions
 abbrev pub casesOfArcs : List Case
 casesOfArcs =
-    costCase distinctSheet 0 0 4 (accepted 133_874_062)
-    ∷ costCase distinctSheet 1 2 6 (accepted 193_342_317)
-    ∷ costCase distinctSheet 2 3 7 (accepted 295_292_049)
+    costCase distinctSheet 0 0 5 (accepted 155_914_832)
+    ∷ costCase distinctSheet 1 2 8 (accepted 249_286_523)
+    ∷ costCase distinctSheet 2 3 8 (accepted 342_396_031)
     ∷ []
 
 -- refusal 13, each reason beside an arc that does not have it
 abbrev pub casesOfThirteen : List Case
 casesOfThirteen =
     -- option above 2
-    costCase distinctSheet 3 3 7 (refused 13 3)
+    costCase distinctSheet 3 3 8 (refused 13 3)
     -- end above T, which is 9
     ∷ costCase distinctSheet 2 6 10 (refused 13 3)
-    ∷ costCase distinctSheet 2 6 9 (accepted 186_224_000)
+    ∷ costCase distinctSheet 2 6 9 (accepted 186_637_770)
     -- end before start
     ∷ costCase distinctSheet 1 6 5 (refused 13 3)
     ∷ costCase distinctSheet 1 6 6 (accepted 0)
     -- maintain not from 0
-    ∷ costCase distinctSheet 0 1 4 (refused 13 3)
-    ∷ costCase distinctSheet 0 0 3 (accepted 110_877_655)
-    -- length not offered: replacements last 2 to 5 years
-    ∷ costCase distinctSheet 2 3 4 (refused 13 3)
-    ∷ costCase distinctSheet 2 3 5 (accepted 132_946_485)
-    ∷ costCase distinctSheet 2 3 8 (accepted 342_397_168)
-    ∷ costCase distinctSheet 2 3 9 (refused 13 3)
+    ∷ costCase distinctSheet 0 1 5 (refused 13 3)
+    ∷ costCase distinctSheet 0 0 4 (accepted 133_415_959)
+    -- length not offered: replacements last 3 to 6 years
+    ∷ costCase distinctSheet 2 3 5 (refused 13 3)
+    ∷ costCase distinctSheet 2 3 6 (accepted 214_953_607)
+    ∷ costCase distinctSheet 2 2 8 (accepted 408_143_207)
+    ∷ costCase distinctSheet 2 2 9 (refused 13 3)
     -- length 0, which only maintain and renovate have; it costs 0, investment included
     ∷ costCase distinctSheet 0 0 0 (accepted 0)
     ∷ costCase distinctSheet 1 3 3 (accepted 0)
     ∷ costCase distinctSheet 2 3 3 (refused 13 3)
     -- an option that is not offered
-    ∷ costCase (without 1) 1 2 6 (refused 13 3)
+    ∷ costCase (without 1) 1 2 8 (refused 13 3)
     ∷ costCase (without 1) 1 3 3 (accepted 0)
     ∷ costCase (without 2) 2 3 3 (refused 13 3)
     -- refusals 1 to 9 come first
-    ∷ costCase (sets distinctSheet rateAt (bytes32 200_001)) 3 3 7 (refused 4 3)
+    ∷ costCase (sets distinctSheet rateAt (bytes32 200_001)) 3 3 8 (refused 4 3)
     ∷ []

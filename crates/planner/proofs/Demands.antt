@@ -2,7 +2,7 @@
 -- `specs/Promises`, which says what they mean, then all of them (`promised`). So a call that meets its three equations meets them
 -- (`promised-of`, `plan-answers`). Why they hold is in `WayLaws`, `DoneLaws` and `LeftLaws`. Assumes nothing.
 use Prim.Native.Nat.{ℕ}
-use mathlib.Core.Path.{_≡_}
+use mathlib.Core.Path.{_≡_, refl}
 use mathlib.Core.List.{List}
 use native.Mathlib.Omega.{arith}
 use Rattle.base.specs.declared.Answer.{Answer}
@@ -58,14 +58,14 @@ module _ (s plan words : List ℕ) where
 
   -- pricing what was written
   pub priced-as-printed : PricedAsPrinted s (answer .number) (answer .total) plan′
-  priced-as-printed e = done-priced s plan words (done s plan words e)
+  priced-as-printed e = done-priced s plan words (done s plan words e) refl
 
   -- against exact values
   pub printed-near : PrintedNear s (answer .number) (answer .total) plan′
-  printed-near e = done-near s plan words (done s plan words e)
+  printed-near e = done-near s plan words (done s plan words e) refl
 
   pub none-far-below : NoneFarBelow s (answer .number) plan′
-  none-far-below e c h = omega (arith, done-far s plan words (done s plan words e) c h)
+  none-far-below e = done-far s plan words (done s plan words e) refl
 
   -- what is left
   pub leaves : Leaves (answer .number) plan words plan′ words′

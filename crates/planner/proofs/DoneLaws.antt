@@ -2,7 +2,7 @@
 -- chain is read (`done-decode`), its count and total (`done-count`, `done-field`) and its bytes (`done-bytes`). So the chain that is read is
 -- the chosen one (`done-returned`), its bytes are priced at its total (`done-priced`), which is near its exact value (`done-near`), and no chain
 -- is far below that (`done-far`). Assumes nothing.
-use Prim.Native.Nat.{ℕ, _+_, _*_, _≤_}
+use Prim.Native.Nat.{ℕ, _≤_}
 use mathlib.Core.Path.{_≡_, ap, sym, subst, _∙_}
 use mathlib.Core.List.{List}
 use native.Mathlib.Omega.{arith}
@@ -13,10 +13,8 @@ use Rattle.base.specs.declared.Answer.{Answer}
 use Rattle.base.proofs.StoreLaws.{written-behind}
 use Rattle.sheet.specs.Sheet.{sheetOf}
 use Rattle.checking.proofs.FitLaws.{fit}
-use Rattle.costing.specs.Error.{allowance}
-use Rattle.chain.specs.Chain.{Chain, Feasible, roundedTotal, exactValue}
+use Rattle.chain.specs.Chain.{Chain, roundedTotal}
 use Rattle.chain.specs.ChosenChain.{ChosenChain}
-use Rattle.chain.specs.Error.{denominator, TotalNear}
 use Rattle.chain.specs.PlanBytes.{planSize, encode, totalField, countField, decode, Narrow}
 use Rattle.chain.proofs.FeasibleLaws.{narrow-of-feasible}
 use Rattle.chain.proofs.TotalLaws.{roundedTotal-lt}
@@ -27,7 +25,7 @@ use Rattle.chain.proofs.ErrorOfChain.{total-near, chain-loss}
 use Rattle.pricing.specs.Pricing.{priced}
 use Rattle.pricing.proofs.PriceLaws.{priced-encode}
 use Rattle.planning.specs.Planning.{found, planAnswer, planAfter}
-use Rattle.planner.specs.Promises.{Returned}
+use Rattle.planner.specs.Promises.{Returned, PricedAsPrinted, PrintedNear, NoneFarBelow}
 use Rattle.planner.specs.Ways.{Done}
 use Rattle.planner.proofs.WayLaws.{way, done-of}
 
@@ -84,19 +82,14 @@ module _ (s plan words : List ℕ) where
           field = done-field ∙ sym done-sum;
         }
 
-    pub done-priced :
-        let after = planAfter s plan words in
-        priced s (take (planSize (countField after)) after) ≡ accepted (planAnswer s plan words .total)
-    done-priced =
+    pub done-priced : PricedAsPrinted s 0 (planAnswer s plan words .total) (planAfter s plan words)
+    done-priced _ =
         ap (priced s) done-bytes ∙ priced-encode s (d .ready .passes) chain (d .chosen .feasible) _ ∙ ap accepted (sym done-sum)
 
-    pub done-near : TotalNear (sheetOf s) (decode (planAfter s plan words)) (planAnswer s plan words .total)
-    done-near = rw (done-decode, done-sum) (total-near (sheetOf s) (fit s (d .ready .passes)) chain (d .chosen .feasible))
+    pub done-near : PrintedNear s 0 (planAnswer s plan words .total) (planAfter s plan words)
+    done-near _ = rw (done-decode, done-sum) (total-near (sheetOf s) (fit s (d .ready .passes)) chain (d .chosen .feasible))
 
-    pub done-far :
-        let p = sheetOf s in
-        (c : Chain) → Feasible p c
-        → 4 * exactValue p (decode (planAfter s plan words)) ≤ 4 * exactValue p c + 2 * (allowance (p .horizon) * denominator p)
-    done-far c h =
-        rw done-decode
-        (chain-loss (sheetOf s) (fit s (d .ready .passes)) chain c (d .chosen .feasible) h (chosen-chain-le (sheetOf s) chain (d .chosen) c h))
+    pub done-far : NoneFarBelow s 0 (planAfter s plan words)
+    done-far _ c h =
+        let least = chosen-chain-le (sheetOf s) chain (d .chosen) c h in
+        rw done-decode (omega (arith, chain-loss (sheetOf s) (fit s (d .ready .passes)) chain c (d .chosen .feasible) h least))

@@ -1,6 +1,7 @@
 -- In which way planning ends (`way`). Each number comes from one of the ways (`ten-of`, `eleven-of`, `twelve-of`, `done-of`; that of a faulty
 -- sheet is not 0, `fault-some`), and where its facts hold it is answered (`ten-when`, `eleven-when`, `twelve-when`, `zero-when`, `ample-when`).
--- A faulty sheet is answered as the check answers it (`way-checked`). Assumes nothing.
+-- What holds of every way's answer holds of the call's (`way-all`): so a faulty sheet is answered as the check answers it (`way-checked`).
+-- Assumes nothing.
 use Prim.Native.Nat.{ℕ, _≤_, _<_}
 use mathlib.Core.Path.{_≡_, refl, ap, sym, subst, _∙_}
 use mathlib.Core.List.{List}
@@ -20,7 +21,7 @@ use Rattle.checking.proofs.PassesLaws.{checked-iff}
 use Rattle.checking.proofs.RangeLaws.{checked-total, checked-number-le}
 use Rattle.checking.proofs.FitLaws.{fit}
 use Rattle.choice.specs.Running.{noTotal}
-use Rattle.chain.specs.Chain.{Chain, Feasible}
+use Rattle.chain.specs.Chain.{Chain, Feasible, roundedTotal}
 use Rattle.chain.specs.ChosenChain.{ChosenChain}
 use Rattle.chain.specs.PlanBytes.{planSize, planLength, encode}
 use Rattle.chain.proofs.FeasibleLaws.{few-ends}
@@ -177,20 +178,22 @@ module _ {s plan words : List ℕ} where
   done-of (short h c r a l) e = absurd (omega (arith, numberOf a))
   done-of (written d) e = d
 
--- what comes with the number: the check's answer; or option 3, and total 0 unless a plan was written
-module _ {s : List ℕ} where
-  faulty-checked : (Passes s → ⊥) → CheckedFirst s (checked s)
-  faulty-checked f = record { faulty = λ _. refl; option = λ h. absurd (f h); total = λ _. checked-total s }
+-- what holds of the check's answer to a faulty sheet, of refusals up to 12 of one that passes, and of a total with which a plan was written
+-- holds of what planning answers
+module _
+    {s plan words : List ℕ} (P : Answer → Type 0) (fault : (Passes s → ⊥) → P (checked s))
+    (stop : Passes s → (n : ℕ) → n ≤ 12 → P (refused n 3))
+    (wrote : (d : Done s plan words) → P (accepted (roundedTotal (sheetOf s) (found (sheetOf s))))) where
+  pub way-all : Way s plan words → P (planAnswer s plan words)
+  way-all (faulty f a l w) = subst P (sym a) (fault f)
+  way-all (few h l a b w) = subst P (sym a) (stop h 10 (omega arith))
+  way-all (none h f a l) = subst P (sym a) (stop (h .passes) 11 (omega arith))
+  way-all (short h c r a l) = subst P (sym a) (stop (h .passes) 12 (omega arith))
+  way-all (written d) = subst P (sym (d .answer)) (wrote d)
 
-  refused-checked : Passes s → (n : ℕ) → CheckedFirst s (refused n 3)
-  refused-checked h n = record { faulty = λ f. absurd (f h); option = λ _. refl; total = λ _. refl }
-
-  accepted-checked : Passes s → (total : ℕ) → CheckedFirst s (accepted total)
-  accepted-checked h total = record { faulty = λ f. absurd (f h); option = λ _. refl; total = λ z. absurd (z refl) }
-
-  pub way-checked : {plan words : List ℕ} → Way s plan words → CheckedFirst s (planAnswer s plan words)
-  way-checked (faulty f a l w) = subst (CheckedFirst s) (sym a) (faulty-checked f)
-  way-checked (few h l a b w) = subst (CheckedFirst s) (sym a) (refused-checked h 10)
-  way-checked (none h f a l) = subst (CheckedFirst s) (sym a) (refused-checked (h .passes) 11)
-  way-checked (short h c r a l) = subst (CheckedFirst s) (sym a) (refused-checked (h .passes) 12)
-  way-checked (written d) = subst (CheckedFirst s) (sym (d .answer)) (accepted-checked (d .ready .passes) _)
+-- so a faulty sheet is answered as the check answers it; else the option is 3, and the total 0 unless a plan was written
+pub way-checked : {s plan words : List ℕ} → Way s plan words → CheckedFirst s (planAnswer s plan words)
+way-checked {s} =
+    way-all (CheckedFirst s) (λ f. record { faulty = λ _. refl; option = λ h. absurd (f h); total = λ _. checked-total s })
+    (λ h n l. record { faulty = λ f. absurd (f h); option = λ _. refl; total = λ _. refl })
+    (λ d. record { faulty = λ f. absurd (f (d .ready .passes)); option = λ _. refl; total = λ z. absurd (z refl) })
