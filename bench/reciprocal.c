@@ -18,6 +18,8 @@ static inline struct divisor divisor_of(uint64_t by)
     return (struct divisor){by, inverse + 1, 0};
 }
 
+/* Exact for n up to 16 * 10^18 and divisors up to 1,200,000: inverse * by lies at most by / 2 from 2^83, and n times
+ * that stays below 2^83. */
 static inline uint64_t divide(uint64_t n, struct divisor d)
 {
     return (uint64_t)((wide)(n + d.more) * d.inverse >> 83);

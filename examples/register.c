@@ -208,10 +208,10 @@ static bool fault(const char *what)
     return false;
 }
 
-/* Units to the nearest cent, a half going up; 100 units are a cent. */
+/* Units in cents, rounded up, so that none is understated; 100 to a cent. */
 static void print_euros(uint64_t units)
 {
-    uint64_t cents = (units + 50) / 100;
+    uint64_t cents = (units + 99) / 100;
 
     printf("%10" PRIu64 ".%02" PRIu64 " euros", cents / 100, cents % 100);
 }
@@ -243,8 +243,8 @@ static uint16_t border(const struct nimovalsa_chain *chain, unsigned k)
 
 /*
  * Prints the arcs of a chain, but those of no years, which cost nothing, and
- * its total. Each line is rounded to cents by itself; in units the arcs must
- * add up to the total.
+ * its total. Each line is rounded up to cents by itself; in units the arcs
+ * must add up to the total.
  */
 static bool show_chain(const uint8_t *sheet,
                        const struct nimovalsa_chain *chain)

@@ -126,9 +126,11 @@ uint64_t nimovalsa_check(const uint8_t *sheet, size_t length);
  * start, each overhaul of an age less than the length in year start + age,
  * and maintenance and electricity in every year from start + 1 to end. Each
  * of these payments is its amount moved forward from year 0 to its year, a
- * year at a time, by (10^6 + f) / (10^6 + r), to the nearest unit, a half
- * going up; in the years after start, maintenance and electricity first move
- * by (10^6 + g) / 10^6, rounded likewise.
+ * year at a time, by (10^6 + f) / (10^6 + r), rounded up to a whole unit; in
+ * the years after start, maintenance and electricity first move by
+ * (10^6 + g) / 10^6, rounded up likewise. So a cost is never below its exact
+ * value, the same sum without rounding, and for an arc from year t to year u
+ * at most (5u^2 + 3u - 5t^2 - 3t) / 2 units above it.
  *
  * Buffers: as with nimovalsa_check, the sheet is only read, nothing is
  * written, and nothing is kept between calls.
@@ -157,8 +159,10 @@ uint64_t nimovalsa_cost(const uint8_t *sheet, size_t length, uint64_t option,
  * shortest and longest life. Maintain and renovate may also have length 0,
  * which costs 0, also where both lives are 0.
  *
- * The chain need not be one of least total. The plan's total field is not
- * looked at: whatever it holds, the answer is the same.
+ * The total is never below the exact value of the chain, and at most
+ * (5T^2 + 3T) / 2 units above it. The chain need not be one of least total. The
+ * plan's total field is not looked at: whatever it holds, the answer is the
+ * same.
  *
  * Buffers: sheet and plan are only read, nothing is written, and nothing is
  * kept between calls. They may overlap.
@@ -181,7 +185,9 @@ uint64_t nimovalsa_price(const uint8_t *sheet, size_t sheet_length,
  * total of the answer, in units. nimovalsa_price says which chains are feasible
  * and what their total is. Of chains with equal least totals the one with the
  * largest i is taken; of those the one with the largest j; of those the one
- * that has the later end year at the first replacement where they differ.
+ * that has the later end year at the first replacement where they differ. No
+ * feasible chain's exact value is more than (5T^2 + 3T) / 2 units below that of
+ * the chain written.
  *
  * The number is that of the first fault, or 0 if there is none. Faults are
  * looked for in the order 1 to 9, as nimovalsa_check answers them, then:

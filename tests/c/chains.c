@@ -1,6 +1,7 @@
 /*
  * nimovalsa_price by the plan's chain: feasible ones with the totals that
- * document 01's rules give them, and ones that each break a single rule.
+ * document 01's rules give them, steps rounded up as document 02 asks, and ones
+ * that each break a single rule.
  */
 #include "boundary.h"
 
@@ -185,12 +186,12 @@ static const struct chain_case three_year_chains[] = {
 /* T 30, lives 2 to 20. These totals follow from the rules and were not taken
  * from the library. */
 static const struct chain_case middle_chains[] = {
-    {{0, 0, 2, {20, 30}}, PRICED(198077540)},
-    {{20, 30, 0, {0}}, PRICED(198077540)},
-    {{0, 10, 1, {30}}, PRICED(208237750)},
-    {{10, 10, 2, {12, 30}}, PRICED(239271949)},
-    {{2, 4, 2, {24, 30}}, PRICED(283120435)},
-    {{2, 22, 4, {24, 26, 28, 30}}, PRICED(296133451)},
+    {{0, 0, 2, {20, 30}}, PRICED(198077882)},
+    {{20, 30, 0, {0}}, PRICED(198077882)},
+    {{0, 10, 1, {30}}, PRICED(208238094)},
+    {{10, 10, 2, {12, 30}}, PRICED(239272297)},
+    {{2, 4, 2, {24, 30}}, PRICED(283120787)},
+    {{2, 22, 4, {24, 26, 28, 30}}, PRICED(296133806)},
 
     /* one year, which no option offers */
     {{1, 1, 2, {21, 30}}, REFUSED_PLAN},
@@ -215,9 +216,9 @@ static const struct chain_case empty_chains[] = {
 
 /* T 300. As on the middle sheet. */
 static const struct chain_case limit_chains[] = {
-    {{0, 0, 3, {120, 240, 300}}, PRICED(932619209049424)},
-    {{120, 240, 1, {300}}, PRICED(932619209049424)},
-    {{1, 2, 3, {122, 242, 300}}, PRICED(661848305090848)},
+    {{0, 0, 3, {120, 240, 300}}, PRICED(932619209053398)},
+    {{120, 240, 1, {300}}, PRICED(932619209053398)},
+    {{1, 2, 3, {122, 242, 300}}, PRICED(661848305095406)},
     {{121, 240, 1, {300}}, REFUSED_PLAN},
     {{120, 241, 1, {300}}, REFUSED_PLAN},
     {{0, 0, 3, {120, 240, 301}}, REFUSED_PLAN},
@@ -232,11 +233,12 @@ static const struct chain_case dear_chains[] = {
     {{0, 0, 5, {60, 120, 180, 240, 300}}, PRICED(6450000000000000)},
 };
 
-/* The paper's case study; its Table 5 has the first total in whole euros. */
+/* The paper's case study; its Table 5 has the first chain, and costing.c its
+ * arcs. */
 static const struct chain_case paper_chains[] = {
-    {{0, 0, 5, {60, 120, 180, 240, 300}}, PRICED(38979204269)},
-    {{15, 45, 5, {105, 165, 225, 285, 300}}, PRICED(40118396679)},
-    {{10, 20, 5, {80, 140, 200, 260, 300}}, PRICED(43555923881)},
+    {{0, 0, 5, {60, 120, 180, 240, 300}}, PRICED(38979215559)},
+    {{15, 45, 5, {105, 165, 225, 285, 300}}, PRICED(40118408505)},
+    {{10, 20, 5, {80, 140, 200, 260, 300}}, PRICED(43555935382)},
     {{16, 45, 5, {105, 165, 225, 285, 300}}, REFUSED_PLAN},
     {{14, 45, 5, {105, 165, 225, 285, 300}}, REFUSED_PLAN},
     {{0, 0, 5, {61, 120, 180, 240, 300}}, REFUSED_PLAN},

@@ -1,6 +1,7 @@
 /*
  * nimovalsa_cost on arcs with and without fault. Each answer is compared with
- * the refusal table and the costs of document 01.
+ * the refusal table and the costs of document 01, steps rounded up as document
+ * 02 asks.
  */
 #include "boundary.h"
 
@@ -64,8 +65,29 @@ static void make_case_sheet_with_overhaul(uint8_t *sheet)
     put_overhaul(record, 0, 1, 1);
 }
 
-/* What costing answers. The costs of cases 6 to 8 are document 01's; the
- * others follow from its rules and were not taken from the library. */
+/* Each option has one payment of 1. One division of its first step has a small
+ * rest: the discount in service, that of a plain step, the ageing. */
+static void make_rests_sheet(uint8_t *sheet)
+{
+    uint8_t *maintain = record_of(sheet, 0);
+    uint8_t *renovate = record_of(sheet, 1);
+    uint8_t *replace = record_of(sheet, 2);
+
+    put_head(sheet, 2, 200000);
+    put_lives(maintain, 1, 1);
+    put32(maintain + ELECTRICITY, 1);
+    put32(maintain + ELECTRICITY_INFLATION, -99999);
+    put_lives(renovate, 1, 1);
+    put32(renovate + INVESTMENT, 1);
+    put32(renovate + INVESTMENT_INFLATION, -99999);
+    put_lives(replace, 1, 1);
+    put32(replace + MAINTENANCE, 1);
+    put32(replace + MAINTENANCE_INFLATION, -100000);
+    put32(replace + MAINTENANCE_AGEING, 20001);
+}
+
+/* What costing answers. The costs follow from the rules and were not taken
+ * from the library. */
 struct arc_case {
     struct arc arc;
     uint64_t answer;
@@ -75,7 +97,7 @@ struct arc_case {
 
 /* Case 6; then what the case sheet does not offer. */
 static const struct arc_case case_arcs[] = {
-    {{2, 1, 3}, 7103747},
+    {{2, 1, 3}, 7105283},
     {{0, 0, 1}, REFUSED_ARC},
     {{1, 1, 2}, REFUSED_ARC},
     {{2, 0, 3}, REFUSED_ARC},
@@ -83,20 +105,20 @@ static const struct arc_case case_arcs[] = {
 
 /* Cases 7 and 8. */
 static const struct arc_case overhaul_arcs[] = {
-    {{2, 1, 3}, 9470467},
-    {{2, 1, 2}, 4828163},
+    {{2, 1, 3}, 9472515},
+    {{2, 1, 2}, 4828931},
 };
 
 /* On the middle sheet: T 30, lives 2 to 20, overhauls at 5, 10 and 15. */
 static const struct arc_case middle_arcs[] = {
-    {{0, 0, 2}, 16179881475},
-    {{0, 0, 5}, 20777665283},
-    {{0, 0, 6}, 22404322307},
-    {{0, 0, 20}, 38136609283},
-    {{1, 3, 5}, 14383855875},
-    {{1, 10, 30}, 25763725059},
-    {{2, 10, 25}, 22483079683},
-    {{2, 28, 30}, 5395626499},
+    {{0, 0, 2}, 16179882243},
+    {{0, 0, 5}, 20777668867},
+    {{0, 0, 6}, 22404327683},
+    {{0, 0, 20}, 38136653571},
+    {{1, 3, 5}, 14383858435},
+    {{1, 10, 30}, 25763800579},
+    {{2, 10, 25}, 22483131139},
+    {{2, 28, 30}, 5395636739},
 
     /* length 0 */
     {{0, 0, 0}, ACCEPTED},
@@ -156,10 +178,18 @@ static const struct arc_case middle_arcs[] = {
 
 /* On the limit sheet: T 300, lives 1 to 120, overhauls at 112 to 119. */
 static const struct arc_case limit_arcs[] = {
-    {{0, 0, 120}, 213150517516468227},  {{1, 0, 1}, 7552000000000003},
-    {{1, 100, 212}, 2560000000229379},  {{2, 100, 213}, 5120000000231427},
-    {{2, 180, 300}, 23040000000122883}, {{2, 299, 300}, 2560000000001027},
+    {{0, 0, 120}, 213150517517393411},  {{1, 0, 1}, 7552000000000003},
+    {{1, 100, 212}, 2560000000344067},  {{2, 100, 213}, 5120000000347139},
+    {{2, 180, 300}, 23040000000184323}, {{2, 299, 300}, 2560000000001539},
     {{2, 181, 301}, REFUSED_ARC},       {{2, 179, 300}, REFUSED_ARC},
+};
+
+/* In service without ageing, and plain: 7,500.008 is 7,501. Aged, 10,200.01 is
+ * 10,201, which the discount makes 7,650.75; from 10,200 it would be 7,650. */
+static const struct arc_case rests_arcs[] = {
+    {{0, 0, 1}, PRICED(7501)},
+    {{1, 1, 2}, PRICED(7501)},
+    {{2, 0, 1}, PRICED(7651)},
 };
 
 /* On the empty sheet: T 1, no option is offered. */
@@ -182,6 +212,30 @@ static void test_arcs(make_sheet *make, const char *name,
         name_case("%s, option %" PRIu64 " from %" PRIu64 " to %" PRIu64, name,
                   now.option, now.start, now.end);
         expect(now, (struct bytes){sheet, sizeof sheet}, cases[i].answer);
+    }
+}
+
+/* The paper's case study: what its five replacements cost in units, and in the
+ * paper's Table 5 in euros, from which each lies less than a euro. */
+static void test_paper_arcs(void)
+{
+    static const struct {
+        uint64_t units, euros;
+    } arcs[] = {
+        {32376325834, 3237632}, {5476429609, 547643}, {936951814, 93695},
+        {161521417, 16152},     {27986885, 2798},
+    };
+    uint8_t sheet[NIMOVALSA_SHEET_BYTES];
+
+    make_paper_sheet(sheet);
+    for (size_t n = 0; n < COUNT(arcs); n++) {
+        uint64_t units = arcs[n].units, paper = arcs[n].euros * 10000;
+
+        name_case("paper, replacement %zu", n);
+        expect((struct arc){2, 60 * n, 60 * n + 60},
+               (struct bytes){sheet, sizeof sheet}, PRICED(units));
+        stop_unless(units < paper + 10000 && paper < units + 10000,
+                    "comparison with Table 5");
     }
 }
 
@@ -216,7 +270,9 @@ void test_costing(void)
     test_arcs(make_middle_sheet, "middle sheet", middle_arcs,
               COUNT(middle_arcs));
     test_arcs(make_limit_sheet, "limit sheet", limit_arcs, COUNT(limit_arcs));
+    test_arcs(make_rests_sheet, "rests sheet", rests_arcs, COUNT(rests_arcs));
     test_arcs(make_empty_sheet, "empty sheet", empty_arcs, COUNT(empty_arcs));
+    test_paper_arcs();
     test_null();
     test_sheet_unchanged();
 }

@@ -202,9 +202,9 @@ struct plan_case {
 };
 
 /* Where totals tie, the chain is the one that document 01 takes. The totals of
- * cases 10 to 12 and of the paper's case study (its Tables 5 and 6) are
- * theirs. chains.c derives some of the others and the rest follow from the
- * rules; none was taken from the library. */
+ * cases 10 to 12 are document 01's, and the paper's case study has the chain of
+ * its Tables 5 and 6. chains.c derives some of the others and the rest follow
+ * from the rules; none was taken from the library. */
 static const struct plan_case plan_cases[] = {
     {make_case_10_sheet, "case 10", {0, 0, 2, {4, 7}}, 0},
     {make_case_11_sheet, "case 11", {0, 0, 2, {2, 3}}, 30000},
@@ -212,15 +212,15 @@ static const struct plan_case plan_cases[] = {
     {make_paper_sheet,
      "paper",
      {0, 0, 5, {60, 120, 180, 240, 300}},
-     38979204269},
+     38979215559},
     {make_six_year_sheet, "six years", {3, 4, 1, {6}}, 6772039000},
     {make_three_year_sheet, "three years", {3, 3, 0, {0}}, 310000},
     {make_dear_sheet, "dear", {120, 240, 1, {300}}, 6270000000000000},
-    {make_middle_sheet, "middle", {20, 30, 0, {0}}, 198077540},
+    {make_middle_sheet, "middle", {20, 30, 0, {0}}, 198077882},
     {make_limit_sheet,
      "limit",
      {2, 5, 5, {9, 17, 76, 188, 300}},
-     173714832053890},
+     173714832058362},
 
     {make_free_sheet, "free", {3, 5, 1, {7}}, 0},
     {make_short_maintain_sheet, "short maintain", {1, 3, 2, {5, 7}}, 0},

@@ -9,10 +9,14 @@ from . import sheets
 
 SVG = '{http://www.w3.org/2000/svg}'
 
-# The paper's case study: its plan, and the present values of its Table 5 in whole euros.
+# The paper's case study: its plan, and of each replacement the cost in units and the euros of the paper's Table 5.
 PAPER_ENDS = [0, 0, 60, 120, 180, 240, 300]
-PAPER_TOTAL = 38_979_204_269
-PAPER_EUROS = ['3,237,632', '547,643', '93,695', '16,152', '2,798', '3,897,920']
+PAPER_TOTAL = 38_979_215_559
+PAPER_ARCS = [(32_376_325_834, 3_237_632), (5_476_429_609, 547_643), (936_951_814, 93_695), (161_521_417, 16_152),
+              (27_986_885, 2_798)]
+
+# What a picture has room for: costs and total to the nearest euro.
+PAPER_EUROS = ['3,237,633', '547,643', '93,695', '16,152', '2,799', '3,897,922']
 
 # Document 01's case 12, and the lines that planshow prints for it.
 CASE_12 = sheets.only_replace(4, 0, 1, 3, 10, 1, overhauls=[(2, 15)])
@@ -28,6 +32,7 @@ def run(bench):
     bench.put('case12', CASE_12)
     bench.put('all', ALL_OFFERED)
     the_paper(bench)
+    table_5(bench)
     small_plans(bench)
     many_layouts(bench)
     no_plan(bench)
@@ -38,19 +43,22 @@ def run(bench):
 
 
 def steps_and_arcs(bench):
-    """Document 01's cases 1 to 8."""
+    """Document 01's cases 1 to 8, rounded up as document 02 asks, and steps with small rests."""
     from nimovalsa.cost import arc_cost, in_service_step, plain_step
     from nimovalsa.sheet import decode
-    bench.equal(plain_step(10_000, 0, 40_000), 9_615, 'case 1')
-    bench.equal(plain_step(9_615, 0, 40_000), 9_245, 'case 2')
+    bench.equal(plain_step(10_000, 0, 40_000), 9_616, 'case 1')
+    bench.equal(plain_step(9_616, 0, 40_000), 9_247, 'case 2')
     bench.equal(plain_step(5, -100_000, 0), 5, 'case 3')
     bench.equal(in_service_step(10_000, 0, 20_000, 40_000), 9_808, 'case 4')
     bench.equal(in_service_step(10_000, 10_000, 20_000, 40_000), 9_906, 'case 5')
+    bench.equal(in_service_step(10_001, 0, 20_000, 40_000), 9_810, 'an ageing to 10,201.02')
+    bench.equal(plain_step(3, -100_000, 200_000), 3, 'a plain step to 2.25')
+    bench.equal(plain_step(4, -100_000, 200_000), 3, 'a plain step without a rest')
     plain = decode(sheets.only_replace(3, 40_000, 1, 2, 1, 1)).records[2]
     overhauled = decode(sheets.only_replace(3, 40_000, 1, 2, 1, 1, overhauls=[(1, 1)])).records[2]
-    bench.equal(arc_cost(plain, 40_000, 1, 3), 27_749, 'case 6')
-    bench.equal(arc_cost(overhauled, 40_000, 1, 3), 36_994, 'case 7')
-    bench.equal(arc_cost(overhauled, 40_000, 1, 2), 18_860, 'case 8')
+    bench.equal(arc_cost(plain, 40_000, 1, 3), 27_755, 'case 6')
+    bench.equal(arc_cost(overhauled, 40_000, 1, 3), 37_002, 'case 7')
+    bench.equal(arc_cost(overhauled, 40_000, 1, 2), 18_863, 'case 8')
 
 
 def plan_lines(total, ends):
@@ -89,11 +97,11 @@ def the_paper(bench):
     bench.equal(picture.get('font-family'), 'sans-serif', 'the font')
     bench.holds(re.fullmatch('0 0 [0-9]+ [0-9]+', picture.get('viewBox')), 'a view box')
     bench.equal(picture[0].tag, f'{SVG}title', 'a title first')
-    bench.holds('3,897,920.4269' in picture.find(f'{SVG}desc').text, 'the exact total in the description')
+    bench.holds('3,897,921.5559' in picture.find(f'{SVG}desc').text, 'the exact total in the description')
     written = texts(picture)
     for text in ['maintain', 'renovate', 'replace', 'total', '0\u201360', '240\u2013300', '0', '300', *PAPER_EUROS]:
         bench.holds(text in written, f'{text} is written')
-    bench.holds('Total present value 3,897,920 euros' in ' '.join(written), 'the total in euros')
+    bench.holds('Total present value 3,897,922 euros' in ' '.join(written), 'the total in euros')
     tell = bars(picture)
     for start in range(0, 300, 60):
         told = [bar for bar in tell if bar.startswith(f'replace {start} to {start + 60}: ')]
@@ -102,6 +110,18 @@ def the_paper(bench):
     units = sum(int(re.sub('[^0-9]', '', bar.split(': ')[1])) for bar in tell)
     bench.equal(units, 2 * PAPER_TOTAL, 'the sum of what the bars tell')
     laid_out(bench, picture, 'the paper')
+
+
+def table_5(bench):
+    """Each replacement of the paper's case study costs less than a euro more or less than in the paper."""
+    from nimovalsa.cost import arc_cost
+    from nimovalsa.sheet import decode
+    sheet = decode(sheets.PAPER)
+    for start, (units, euros) in zip(range(0, 300, 60), PAPER_ARCS):
+        cost = arc_cost(sheet.records[2], sheet.discount_rate, start, start + 60)
+        bench.equal(cost, units, f'the replacement from {start}')
+        bench.holds(abs(cost - 10_000 * euros) < 10_000, f'the replacement from {start} is a euro or more off the paper')
+    bench.equal(sum(units for units, _ in PAPER_ARCS), PAPER_TOTAL, 'the sum of the replacements')
 
 
 def small_plans(bench):

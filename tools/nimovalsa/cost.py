@@ -1,21 +1,21 @@
-"""What an arc costs, in units of 1/10,000 euro, by document 01's rules: whole numbers, rounded year by year."""
+"""What an arc costs, in units of 1/10,000 euro, by document 01's rules: whole numbers, rounded up year by year."""
 
 from .sheet import MILLION
 
 UNITS = 10_000  # units to a euro
 
 
-def nearest(numerator, denominator):
-    """The nearest whole number to a quotient, a half going up."""
-    return (2 * numerator + denominator) // (2 * denominator)
+def divided(numerator, denominator):
+    """A quotient, rounded up to a whole number."""
+    return -(-numerator // denominator)
 
 
 def plain_step(amount, inflation, rate):
-    return nearest(amount * (MILLION + inflation), MILLION + rate)
+    return divided(amount * (MILLION + inflation), MILLION + rate)
 
 
 def in_service_step(amount, inflation, ageing, rate):
-    return plain_step(nearest(amount * (MILLION + ageing), MILLION), inflation, rate)
+    return plain_step(divided(amount * (MILLION + ageing), MILLION), inflation, rate)
 
 
 def once(euros, inflation, rate, year):

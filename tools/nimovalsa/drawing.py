@@ -7,7 +7,7 @@ and one that does not fit in its bar is left out; every bar also has its activit
 from typing import NamedTuple
 from xml.etree import ElementTree
 
-from .cost import UNITS, nearest
+from .cost import UNITS
 from .figures import per_cent, years
 from .plan import REPLACE
 from .sheet import OPTIONS
@@ -204,7 +204,8 @@ def span(start, end):
 
 
 def whole_euros(units):
-    return f'{nearest(units, UNITS):,}'
+    """To the nearest euro, a half going up: what a picture has room for."""
+    return f'{(units + UNITS // 2) // UNITS:,}'
 
 
 def exact_euros(units):

@@ -1,6 +1,6 @@
--- A chain's rounded total against its exact value: the allowances of arcs that follow each other add up, so four times the difference is at
--- most 5T² + 3T (`total-near`); and of two chains, if the first's rounded total is at most the second's, its exact value is at most twice
--- that above the second's (`chain-loss`). The exact value of every payment of a feasible chain is whole (`chain-whole`). Assumes nothing.
+-- A chain's rounded total against its exact value: the allowances of arcs that follow each other add up, so it is never below it and at most
+-- (5T² + 3T)/2 units above (`total-near`); and of two chains, if the first's rounded total is at most the second's, its exact value is at most
+-- that far above the second's (`chain-loss`). The exact value of every payment of a feasible chain is whole (`chain-whole`). Assumes nothing.
 use Prim.Native.Nat.{ℕ, _+_, _-_, _*_, _≤_}
 use mathlib.Core.Path.{subst}
 use mathlib.Core.List.{List, [], _∷_}
@@ -26,7 +26,7 @@ use Rattle.chain.specs.Ordered.{Climbs}
 use Rattle.chain.proofs.FeasibleLaws.{climbs-rest, ordered-of-feasible}
 
 module _ (p : PlanningSheet) (fit : Fit (parsed p)) where
-  -- what activities cost, rounded, against their exact value: four times the difference is at most B − A
+  -- what activities cost, rounded, against their exact value, by the allowances A and B
   abbrev Allowed : List Activity → (A B : ℕ) → Type 0
   Allowed l A B = Between (sumOf cost (arcsOf p l)) (sumOf exactCost (arcsOf p l)) (denominator p) A B
 
@@ -73,10 +73,10 @@ module _ (p : PlanningSheet) (fit : Fit (parsed p)) where
   unfolding roundedTotal exactValue above below allowance
   total-near c h = omega (arith, chain-allowed c h)
 
-  -- for two feasible chains: (5T² + 3T) / 2 units at most
+  -- for two feasible chains: the first is not below its exact value, the second at most (5T² + 3T)/2 units above
   pub chain-loss :
       (c d : Chain) → Feasible p c → Feasible p d → roundedTotal p c ≤ roundedTotal p d
-      → 4 * exactValue p c ≤ 4 * exactValue p d + 2 * (allowance (p .horizon) * denominator p)
+      → 2 * exactValue p c ≤ 2 * exactValue p d + allowance (p .horizon) * denominator p
   chain-loss c d h k le = omega (arith, total-near c h, total-near d k, mul-le-mul-left (denominator p) le)
 
 -- each payment of each arc

@@ -9,8 +9,8 @@ use Rattle.chain.specs.Chain.{Chain, exactValue}
 abbrev pub denominator : PlanningSheet → ℕ
 denominator p = common (p .horizon) (1_000_000 + p .rate)
 
--- Four times the difference between the units and the chain's exact value is at most 5T² + 3T: said on whole numbers, both sides multiplied
--- by the common denominator.
+-- The units are never below the chain's exact value, and at most (5T² + 3T)/2 above it: said on whole numbers, multiplied by the common
+-- denominator.
 pub record TotalNear (p : PlanningSheet) (c : Chain) (units : ℕ) : Type 0 where
-  pub high : 4 * (units * denominator p) ≤ 4 * exactValue p c + allowance (p .horizon) * denominator p
-  pub low : 4 * exactValue p c ≤ 4 * (units * denominator p) + allowance (p .horizon) * denominator p
+  pub high : 2 * (units * denominator p) ≤ 2 * exactValue p c + allowance (p .horizon) * denominator p
+  pub low : exactValue p c ≤ units * denominator p

@@ -59,7 +59,7 @@ module _ (s : List ℕ) (option start end : ℕ) where
   arc-of : Passes s → Offered (sheetOf s) option start end → ArcFits (arcOf (sheetOf s) option start end)
   arc-of h o = arc-fits (sheetOf s) option start end (fit s h) (o .known) (o .forward) (o .inside)
 
-  -- each payment of such an arc after p plain steps and s in service is off by at most p + 2s halves of a unit
+  -- each payment of such an arc after p plain steps and s in service is off by at most p + 2s roundings
   pub payments-near :
       Passes s → Offered (sheetOf s) option start end
       → Every (PaymentNear (1_000_000 + sheetOf s .rate)) (payments (arcOf (sheetOf s) option start end))

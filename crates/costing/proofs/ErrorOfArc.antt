@@ -1,6 +1,6 @@
--- An arc's cost against its exact value: they differ by at most the allowance of its years (`arc-error`). In order: every payment of an arc
--- passes the checks and falls by the horizon, so its exact value is whole (`payments-whole`) and its rounded one near (`payments-error`); the
--- halves of a unit that the payments of each year give; the two together. Assumes nothing.
+-- An arc's cost against its exact value: never below it, and above it by at most the allowance of its years (`arc-error`). In order: every
+-- payment of an arc passes the checks and falls by the horizon, so its exact value is whole (`payments-whole`) and its rounded one near
+-- (`payments-error`); how often the payments of each year are rounded; the two together. Assumes nothing.
 use Prim.Native.Nat.{ℕ, zero, suc, _+_, _*_, _≤_, _<_}
 use mathlib.Core.Path.{_≡_, refl}
 use mathlib.Core.List.{List, [], _∷_, _++_}
@@ -17,7 +17,7 @@ use Rattle.checking.specs.Fit.{FlowFits}
 use Rattle.steps.specs.Step.{above, below}
 use Rattle.steps.specs.Payment.{Payment, year, once}
 use Rattle.steps.specs.Exact.{_over_, common, Whole}
-use Rattle.steps.specs.Error.{NearBy, halves, PaymentNear}
+use Rattle.steps.specs.Error.{NearBy, roundings, PaymentNear}
 use Rattle.steps.specs.Fit.{Sound}
 use Rattle.steps.proofs.ErrorOfPayment.{payment-error, exact-whole, total-error}
 use Rattle.costing.specs.Arc.{Arc, inYear, investment, maintenance, electricity, ageOf, overhaul, forEach, paidIf, overhaulsBelow, paid, payments, cost, exactCost}
@@ -82,7 +82,7 @@ module _ (a : Arc) (ok : ArcFits a) where
   unfolding payments
   payments-sound = paid-sound (a .horizon) (a .kept) (ok .kept) (a .years) (ok .inside)
 
-  -- so each payment of an arc after p plain steps and s in service is off by at most p + 2s halves of a unit
+  -- so each payment of an arc after p plain steps and s in service is off by at most p + 2s roundings
   pub payments-error : Every (PaymentNear (a .kept .discount)) (payments a)
   payments-error = every-map _ _ (λ p s. payment-error (a .kept .discount) p (s .rates)) (payments a) payments-sound
 
@@ -100,49 +100,49 @@ module _ (k : Kept) (ok : KeptFits k) where
   unfolding ageOf
   ageOf-rising = ok .terms .overhauls .rising
 
-  overhaul-halves : (i : ℕ) → halves (overhaul k i) ≡ k .from + ageOf k i
-  unfolding overhaul once halves
-  overhaul-halves i = omega arith
+  overhaul-roundings : (i : ℕ) → roundings (overhaul k i) ≡ k .from + ageOf k i
+  unfolding overhaul once roundings
+  overhaul-roundings i = omega arith
 
   -- before an overhaul of age n there is no other of that age
-  atAge-before : (n i : ℕ) → i < k .terms .overhauls .count → ageOf k i ≡ n → sumOf halves (forEach i (atAge k n)) ≡ 0
+  atAge-before : (n i : ℕ) → i < k .terms .overhauls .count → ageOf k i ≡ n → sumOf roundings (forEach i (atAge k n)) ≡ 0
   atAge-before n i l e =
-      forEach-none halves i (atAge k n) (λ j m.
+      forEach-none roundings i (atAge k n) (λ j m.
       let younger = ageOf-rising j i m l in
-      rw (ne-eqb (ageOf k j) n (λ d. omega arith)) (paidIf-false halves (overhaul k j)))
+      rw (ne-eqb (ageOf k j) n (λ d. omega arith)) (paidIf-false roundings (overhaul k j)))
 
   -- so at most one of the first i overhauls has age n
-  atAge-halves : (n i : ℕ) → i ≤ k .terms .overhauls .count → sumOf halves (forEach i (atAge k n)) ≤ k .from + n
-  atAge-halves n zero l = rw (forEach-zero halves) (omega arith)
-  atAge-halves n (suc i) l =
-      rw (forEach-suc halves)
+  atAge-roundings : (n i : ℕ) → i ≤ k .terms .overhauls .count → sumOf roundings (forEach i (atAge k n)) ≤ k .from + n
+  atAge-roundings n zero l = rw (forEach-zero roundings) (omega arith)
+  atAge-roundings n (suc i) l =
+      rw (forEach-suc roundings)
       (by-test (eqb (ageOf k i) n)
       (λ t.
       let e = eqb-true (ageOf k i) n t in
-      rw (atAge-before n i l e, t, paidIf-true halves, overhaul-halves i) (omega arith))
-      (λ t. rw (t, paidIf-false halves) (omega (arith, atAge-halves n i (omega arith)))))
+      rw (atAge-before n i l e, t, paidIf-true roundings, overhaul-roundings i) (omega arith))
+      (λ t. rw (t, paidIf-false roundings) (omega (arith, atAge-roundings n i (omega arith)))))
 
-  overhaulsAt-halves : (n : ℕ) → sumOf halves (overhaulsAt k n) ≤ k .from + n
+  overhaulsAt-roundings : (n : ℕ) → sumOf roundings (overhaulsAt k n) ≤ k .from + n
   unfolding overhaulsAt
-  overhaulsAt-halves n = atAge-halves n (k .terms .overhauls .count) (omega arith)
+  overhaulsAt-roundings n = atAge-roundings n (k .terms .overhauls .count) (omega arith)
 
   -- What year n adds: one overhaul at most, and two flows. From a start t these give 3t + 5n + 4; the allowance has room for 4t.
-  added-halves : (n : ℕ) → sumOf halves (added k n) ≤ 4 * k .from + 5 * n + 4
-  unfolding maintenance electricity inYear halves
-  added-halves n = rw (added-total halves) (omega (arith, overhaulsAt-halves n))
+  added-roundings : (n : ℕ) → sumOf roundings (added k n) ≤ 4 * k .from + 5 * n + 4
+  unfolding maintenance electricity inYear roundings
+  added-roundings n = rw (added-total roundings) (omega (arith, overhaulsAt-roundings n))
 
   -- by induction over the years
-  walked-halves : (n : ℕ) → 2 * sumOf halves (walked k (suc n)) + allowance (k .from) ≤ allowance (k .from + suc n)
-  walked-halves zero =
-      rw (walked-suc halves, walked-zero halves, add-suc (k .from) 0, add-zero (k .from))
-      (unfold investment once halves in omega (arith, added-halves 0, allowance-suc (k .from)))
-  walked-halves (suc n) =
-      rw (walked-suc halves, add-suc (k .from) (suc n))
-      (omega (arith, walked-halves n, added-halves (suc n), allowance-suc (k .from + suc n)))
+  walked-roundings : (n : ℕ) → 2 * sumOf roundings (walked k (suc n)) + allowance (k .from) ≤ allowance (k .from + suc n)
+  walked-roundings zero =
+      rw (walked-suc roundings, walked-zero roundings, add-suc (k .from) 0, add-zero (k .from))
+      (unfold investment once roundings in omega (arith, added-roundings 0, allowance-suc (k .from)))
+  walked-roundings (suc n) =
+      rw (walked-suc roundings, add-suc (k .from) (suc n))
+      (omega (arith, walked-roundings n, added-roundings (suc n), allowance-suc (k .from + suc n)))
 
-  paid-halves : (n : ℕ) → 2 * sumOf halves (paid k n) + allowance (k .from) ≤ allowance (k .from + n)
-  paid-halves zero = rw (paid-zero halves, add-zero (k .from)) (omega arith)
-  paid-halves (suc n) = rw (walked-paid halves) (walked-halves n)
+  paid-roundings : (n : ℕ) → 2 * sumOf roundings (paid k n) + allowance (k .from) ≤ allowance (k .from + n)
+  paid-roundings zero = rw (paid-zero roundings, add-zero (k .from)) (omega arith)
+  paid-roundings (suc n) = rw (walked-paid roundings) (walked-roundings n)
 
 -- what lies between A and B and what lies between B and C add up to what lies between A and C
 pub between-add : {a b e f D A B C : ℕ} → Between a e D A B → Between b f D B C → Between (a + b) (e + f) D A C
@@ -157,9 +157,9 @@ pub arc-between :
     (allowance (a .kept .from)) (allowance (a .kept .from + a .years))
 unfolding cost exactCost payments
 arc-between a ok =
-    between-near (sumOf halves (paid (a .kept) (a .years)))
+    between-near (sumOf roundings (paid (a .kept) (a .years)))
     (total-error (a .horizon) (a .kept .discount) _ (paid-sound (a .horizon) (a .kept) (ok .kept) (a .years) (ok .inside)))
-    (paid-halves (a .kept) (ok .kept) (a .years))
+    (paid-roundings (a .kept) (ok .kept) (a .years))
 
 pub arc-error : (a : Arc) → ArcFits a → WithinAllowance a (cost a)
 unfolding above below

@@ -1,5 +1,5 @@
--- Arcs costed, a list of what the rules give beside what it should be: document 01's cases 6 to 8, an arc of each option of a sheet whose fields
--- all differ, and each reason of refusal 13. `CaseLaws.antt` evaluates them. Definitions only.
+-- Arcs costed, a list of what the rules give beside what it should be: document 01's cases 6 to 8, worked out again as request 1
+-- asks, an arc of each option of a sheet whose fields all differ, and each reason of refusal 13. `CaseLaws.antt` evaluates them. Definitions only.
 use Prim.Native.Nat.{ℕ}
 use mathlib.Core.List.{List, [], _∷_}
 use lib.Seq.{sets}
@@ -17,17 +17,17 @@ costCase sheet option start end answer = record { Figure = Answer; given = coste
 
 abbrev pub casesSixToEight : List Case
 casesSixToEight =
-    costCase (arcSheet noOverhaul) 2 1 3 (accepted 27_749)
-    ∷ costCase (arcSheet (oneOverhaul 1 1)) 2 1 3 (accepted 36_994)
-    ∷ costCase (arcSheet (oneOverhaul 1 1)) 2 1 2 (accepted 18_860)
+    costCase (arcSheet noOverhaul) 2 1 3 (accepted 27_755)
+    ∷ costCase (arcSheet (oneOverhaul 1 1)) 2 1 3 (accepted 37_002)
+    ∷ costCase (arcSheet (oneOverhaul 1 1)) 2 1 2 (accepted 18_863)
     ∷ []
 
 -- every field of a record goes into the arc's cost, in which both overhauls are paid; the totals were worked out apart from these definitions
 abbrev pub casesOfArcs : List Case
 casesOfArcs =
-    costCase distinctSheet 0 0 5 (accepted 155_914_832)
-    ∷ costCase distinctSheet 1 2 8 (accepted 249_286_523)
-    ∷ costCase distinctSheet 2 3 8 (accepted 342_396_031)
+    costCase distinctSheet 0 0 5 (accepted 155_914_852)
+    ∷ costCase distinctSheet 1 2 8 (accepted 249_286_573)
+    ∷ costCase distinctSheet 2 3 8 (accepted 342_396_093)
     ∷ []
 
 -- refusal 13, each reason beside an arc that does not have it
@@ -37,17 +37,17 @@ casesOfThirteen =
     costCase distinctSheet 3 3 8 (refused 13 3)
     -- end above T, which is 9
     ∷ costCase distinctSheet 2 6 10 (refused 13 3)
-    ∷ costCase distinctSheet 2 6 9 (accepted 186_637_770)
+    ∷ costCase distinctSheet 2 6 9 (accepted 186_637_805)
     -- end before start
     ∷ costCase distinctSheet 1 6 5 (refused 13 3)
     ∷ costCase distinctSheet 1 6 6 (accepted 0)
     -- maintain not from 0
     ∷ costCase distinctSheet 0 1 5 (refused 13 3)
-    ∷ costCase distinctSheet 0 0 4 (accepted 133_415_959)
+    ∷ costCase distinctSheet 0 0 4 (accepted 133_415_972)
     -- length not offered: replacements last 3 to 6 years
     ∷ costCase distinctSheet 2 3 5 (refused 13 3)
-    ∷ costCase distinctSheet 2 3 6 (accepted 214_953_607)
-    ∷ costCase distinctSheet 2 2 8 (accepted 408_143_207)
+    ∷ costCase distinctSheet 2 3 6 (accepted 214_953_637)
+    ∷ costCase distinctSheet 2 2 8 (accepted 408_143_257)
     ∷ costCase distinctSheet 2 2 9 (refused 13 3)
     -- length 0, which only maintain and renovate have; it costs 0, investment included
     ∷ costCase distinctSheet 0 0 0 (accepted 0)

@@ -36,7 +36,7 @@ pub record ArcFits (a : Arc) : Type 0 where
   pub kept : KeptFits (a .kept)
   pub inside : a .kept .from + a .years ≤ a .horizon
 
--- units against e / D: four times the difference is at most B − A, both ways
+-- units against e / D: four times the difference is at most `above` times B − A above it, and `below` times B − A below
 pub record Between (units e D A B : ℕ) : Type 0 where
   pub high : 4 * (units * D) + above * (A * D) ≤ 4 * e + above * (B * D)
   pub low : 4 * e + below * (A * D) ≤ 4 * (units * D) + below * (B * D)

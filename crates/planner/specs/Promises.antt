@@ -81,17 +81,17 @@ LendsCheapest s words words′ = Ready s words → CheapestWords (sheetOf s) wor
 abbrev pub PricedAsPrinted : (s : List ℕ) (number total : ℕ) (plan′ : List ℕ) → Type 0
 PricedAsPrinted s number total plan′ = number ≡ 0 → priced s (take (planSize (countField plan′)) plan′) ≡ accepted total
 
--- the printed total is within (5T² + 3T)/4 units of the returned chain's exact value, both ways
+-- the printed total is never below the returned chain's exact value, and at most (5T² + 3T)/2 units above it
 abbrev pub PrintedNear : (s : List ℕ) (number total : ℕ) (plan′ : List ℕ) → Type 0
 PrintedNear s number total plan′ = number ≡ 0 → TotalNear (sheetOf s) (decode plan′) total
 
--- no feasible chain's exact value is more than (5T² + 3T)/2 units below the returned one's: both sides times 4 and the common denominator
+-- no feasible chain's exact value is more than (5T² + 3T)/2 units below the returned one's: both sides times 2 and the common denominator
 abbrev pub NoneFarBelow : (s : List ℕ) (number : ℕ) (plan′ : List ℕ) → Type 0
 NoneFarBelow s number plan′ =
     let p = sheetOf s in
     number ≡ 0
     → (c : Chain) → Feasible p c
-    → 4 * exactValue p (decode plan′) ≤ 4 * exactValue p c + 2 * (allowance (p .horizon) * denominator p)
+    → 2 * exactValue p (decode plan′) ≤ 2 * exactValue p c + allowance (p .horizon) * denominator p
 
 -- A refused call leaves the plan buffer untouched; the words are left unless the number is 0, 11 or 12. An accepted call leaves the bytes
 -- behind the plan.

@@ -1,6 +1,6 @@
--- What a payment is worth in units against its exact value, then the same for sums over lists of payments: they differ by at most one half
--- of a unit for each plain step and two for each step in service. Between the two: the exact value over the common denominator is whole
--- (`exact-whole`). Assumes nothing.
+-- What a payment is worth in units against its exact value, then the same for sums over lists of payments: they differ by at most one rounding
+-- for each plain step and two for each step in service. Between the two: the exact value over the common denominator is whole (`exact-whole`).
+-- Assumes nothing.
 use Prim.Native.Nat.{ℕ, zero, suc, _+_, _-_, _*_, _≤_, _∣_}
 use mathlib.Core.Path.{_≡_}
 use mathlib.Core.List.{List, [], _∷_}
@@ -11,10 +11,10 @@ use Rattle.base.specs.Lists.{Every, sumOf}
 use Rattle.steps.specs.Step.{repeated}
 use Rattle.steps.specs.Payment.{Payment, year, rounded}
 use Rattle.steps.specs.Exact.{Fraction, _over_, scaled, exactPlain, exactInService, unrounded, common, exact, Whole}
-use Rattle.steps.specs.Error.{NearBy, halves, PaymentNear}
+use Rattle.steps.specs.Error.{NearBy, roundings, PaymentNear}
 use Rattle.steps.specs.Fit.{Rates, Sound}
 use Rattle.steps.proofs.ErrorOfRounding.{near-start, near-weaken, near-lift, near-add}
-use Rattle.steps.proofs.ErrorOfStep.{Adds, plain-halves, inService-halves}
+use Rattle.steps.proofs.ErrorOfStep.{Adds, plain-roundings, inService-roundings}
 
 -- k steps add k times what one adds
 repeated-adds :
@@ -25,12 +25,12 @@ repeated-adds h step exactStep one zero a x w c = near-weaken (mul-le-mul-right 
 repeated-adds h step exactStep one (suc k) a x w c =
     near-weaken (mul-le-mul-right _ (omega arith)) (one _ _ (w + h * k) (repeated-adds h step exactStep one k a x w c))
 
--- a payment after p plain steps and s in service: at most p + 2s halves
+-- a payment after p plain steps and s in service: at most p + 2s roundings
 pub payment-error : (discount : ℕ) (p : Payment) → Rates discount p → PaymentNear discount p
-unfolding rounded unrounded halves
+unfolding rounded unrounded roundings
 payment-error discount p ok =
-    let plainly = repeated-adds 1 _ _ (plain-halves (p .grow) discount (ok .positive) (ok .grown)) (p .plainly) in
-    let served = repeated-adds 2 _ _ (inService-halves (p .grow) (p .age) discount (ok .positive) (ok .grown) (ok .product)) (p .served) in
+    let plainly = repeated-adds 1 _ _ (plain-roundings (p .grow) discount (ok .positive) (ok .grown)) (p .plainly) in
+    let served = repeated-adds 2 _ _ (inService-roundings (p .grow) (p .age) discount (ok .positive) (ok .grown) (ok .product)) (p .served) in
     near-weaken (mul-le-mul-right _ (omega arith)) (served _ _ _ (plainly _ _ 0 (near-start (p .amount * 10_000))))
 
 common-suc : (n discount : ℕ) → common (suc n) discount ≡ common n discount * (1_000_000 * discount)
@@ -78,15 +78,15 @@ exact-whole horizon discount p h = rw (mul-assoc, div-mul-cancel _ (unrounded-di
 -- both values over the common denominator
 pub payment-over :
     (horizon discount : ℕ) (p : Payment) → Rates discount p → year p ≤ horizon
-    → NearBy (rounded discount p) (exact horizon discount p over common horizon discount) (halves p)
+    → NearBy (rounded discount p) (exact horizon discount p over common horizon discount) (roundings p)
 unfolding exact
 payment-over horizon discount p ok h =
-    near-lift (halves p) _ _ (div-mul-cancel _ (unrounded-divides horizon discount p h)) (payment-error discount p ok)
+    near-lift (roundings p) _ _ (div-mul-cancel _ (unrounded-divides horizon discount p h)) (payment-error discount p ok)
 
 pub total-error :
     (horizon discount : ℕ) (ps : List Payment) → Every (Sound horizon discount) ps
-    → NearBy (sumOf (rounded discount) ps) (sumOf (exact horizon discount) ps over common horizon discount) (sumOf halves ps)
+    → NearBy (sumOf (rounded discount) ps) (sumOf (exact horizon discount) ps over common horizon discount) (sumOf roundings ps)
 unfolding sumOf
 total-error horizon discount [] ok = omega arith
 total-error horizon discount (p ∷ ps) ok =
-    near-add (halves p) (sumOf halves ps) (payment-over horizon discount p (ok .0 .rates) (ok .0 .by)) (total-error horizon discount ps (ok .1))
+    near-add (roundings p) (sumOf roundings ps) (payment-over horizon discount p (ok .0 .rates) (ok .0 .by)) (total-error horizon discount ps (ok .1))

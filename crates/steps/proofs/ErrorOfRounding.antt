@@ -13,7 +13,7 @@ use Rattle.steps.proofs.RoundingLaws.{divided-above, divided-below}
 pub near-start : (n : ℕ) → Near n (n over 1) 0
 near-start n = omega arith
 
--- one rounding multiplies the allowance as it multiplies the fraction, and adds half a unit over the new denominator
+-- one rounding multiplies the allowance as it multiplies the fraction, and adds one over the new denominator
 pub near-divided :
     (n d a : ℕ) (x : Fraction) (W : ℕ) → 0 < d → Near a x W
     → Near (divided (a * n) d) (scaled n d x) (W * n + x .denominator * d)

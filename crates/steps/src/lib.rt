@@ -1,5 +1,5 @@
-// One year's step, and what a payment is worth: document 01, 'One year's step'. A rate is given by its factor in millionths; the discount
-// factor as a divisor. Nothing here is a public call: `Units` and `paid_once` serve the crates above, which meet what they require.
+// One year's step, and what a payment is worth: document 01, 'One year's step', rounded up. A rate is given by its factor in millionths; the
+// discount factor as a divisor. Nothing here is a public call: `Units` and `paid_once` serve the crates above, which meet what they require.
 
 ghost use mathlib.Core.Path.{_≡_};
 ghost use Prim.Native.Nat.{_<_, _≤_, _*_};
@@ -12,20 +12,20 @@ use division::Divisor;
 // A present value in units: a currency unit is 10,000 of them.
 pub struct Units(pub u64);
 
-// n / d to the nearest whole unit, a half going up.
-fn nearest(n: u64, d: u64) -> u64
+// n / d, rounded up to a whole unit.
+fn up(n: u64, d: u64) -> u64
     requires { ⌜ (0 < d) × (d ≤ 1_300_000) × (n ≤ 15_000_000_000_000_000_000) ⌝ }
     ensures { λ r. ⌜ r ≡ divided n d ⌝ }
 {
-    (n + d / 2) / d
+    (n + (d - 1)) / d
 }
 
 // The same, by a divisor that is at hand.
-fn nearest_by(n: u64, d: Divisor) -> u64
+fn up_by(n: u64, d: Divisor) -> u64
     requires { ⌜ DivisorReady d × (n ≤ 15_000_000_000_000_000_000) ⌝ }
     ensures { λ r. ⌜ r ≡ divided n (d .by) ⌝ }
 {
-    d.quotient(n + d.by / 2)
+    d.quotient(n + (d.by - 1))
 }
 
 impl Units {
@@ -34,7 +34,7 @@ impl Units {
         requires { ⌜ PlainFits grow (discount .by) (self .0) × DivisorReady discount ⌝ }
         ensures { λ r. ⌜ r .0 ≡ plain grow (discount .by) (self .0) ⌝ }
     {
-        Units(nearest_by(self.0 * grow, discount))
+        Units(up_by(self.0 * grow, discount))
     }
 
     // One year forward in service: the ageing first.
@@ -42,8 +42,8 @@ impl Units {
         requires { ⌜ ServiceFits grow age (discount .by) (self .0) × DivisorReady discount ⌝ }
         ensures { λ r. ⌜ r .0 ≡ inService grow age (discount .by) (self .0) ⌝ }
     {
-        let aged = nearest(self.0 * age, 1_000_000);
-        Units(nearest_by(aged * grow, discount))
+        let aged = up(self.0 * age, 1_000_000);
+        Units(up_by(aged * grow, discount))
     }
 
     // That many years forward.

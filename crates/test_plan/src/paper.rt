@@ -1,4 +1,5 @@
-// The paper's case study: replacements of 60 years from 0, 3,897,920 euros in Tables 5 and 6; and its sheet with replace not offered.
+// The paper's case study: replacements of 60 years from 0, as in Tables 5 and 6, 1.56 euro above their 3,897,920; and its sheet with replace
+// not offered.
 
 use crate::planned::amply;
 use crate::planned::in_buffers;

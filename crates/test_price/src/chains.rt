@@ -4,7 +4,7 @@ use crate::plan::plan;
 use crate::show::answer;
 use test_sheets::paper::sheet;
 
-// Five replacements of 60 years, which Tables 5 and 6 have at 3,897,920 euros; and six of 50.
+// Five replacements of 60 years, 1.56 euro above the 3,897,920 of Tables 5 and 6; and six of 50.
 fn replacing(s: &[u8]) {
     let least = plan(0, 0, 5, [60, 120, 180, 240, 300, 0]);
     let shorter = plan(0, 0, 6, [50, 100, 150, 200, 250, 300]);

@@ -96,7 +96,7 @@ impl Running {
     }
 
     fn next_year(&mut self) -> u64 {
-        let aged = nearest(self.amount * self.ageing, 1_000_000);
+        let aged = up(self.amount * self.ageing, 1_000_000);
         self.amount = plain(aged, self.growth, self.discount);
         self.amount
     }
@@ -104,18 +104,19 @@ impl Running {
 
 /// An amount after one plain step.
 fn plain(amount: u64, growth: u64, discount: u64) -> u64 {
-    nearest(amount * growth, discount)
+    up(amount * growth, discount)
 }
 
 fn factor(rate: i64) -> u64 {
     (1_000_000 + rate) as u64
 }
 
-/// A running amount is about 10^13 at most. Aged, it is multiplied by at most 1,300,000; ageing
-/// and growth together multiply it by at most 1,200,000, by check 8. So no dividend reaches
-/// 2^64. An odd divisor leaves no half, so half of it may be rounded down.
-fn nearest(dividend: u64, divisor: u64) -> u64 {
-    (dividend + divisor / 2) / divisor
+/// The quotient rounded up. A step raises a running amount by 1 at most, so in 300 years it is
+/// 10^13 + 300 at most. Aged, it is multiplied by at most 1,300,000; ageing and growth together
+/// multiply it by at most 1,200,000, by check 8. So dividends stay below 1.4 × 10^19, and none
+/// reaches 2^64, which is above 1.8 × 10^19.
+fn up(dividend: u64, divisor: u64) -> u64 {
+    dividend.div_ceil(divisor)
 }
 
 #[cfg(test)]
@@ -125,6 +126,18 @@ mod tests {
     use crate::cost::{arc_cost, fault, Arc};
     use crate::random::Random;
     use crate::sheets::{corner_sheet, long_sheet, small_sheet};
+
+    #[test]
+    fn a_rest_counts_as_a_unit_up_to_the_largest_dividends() {
+        for divisor in [1_000_000, 1_000_001, 1_040_000, 1_199_999, 1_200_000] {
+            for whole in [0, 1, 9_615, 15_000_000_000_000_000_000 / divisor] {
+                let dividend = whole * divisor;
+                assert_eq!(up(dividend, divisor), whole);
+                assert_eq!(up(dividend + 1, divisor), whole + 1);
+                assert_eq!(up(dividend + divisor - 1, divisor), whole + 1);
+            }
+        }
+    }
 
     /// The arcs from a year are those without fault, at the cost that is defined.
     fn assert_as_defined(sheet: &Sheet, option: usize, start: usize) {

@@ -6,6 +6,7 @@ use crate::compare::possible_answers;
 use crate::cost::{answer, cost, Arc, Fault, Refusal};
 use crate::damaged::random_sheet;
 use crate::library;
+use crate::quotients::{quotients, Division, Rest, DIVISIONS, RESTS};
 use crate::random::Random;
 use crate::report::{difference, Tally};
 use crate::sheet::{of_option, unsigned, LONGEST};
@@ -23,6 +24,8 @@ const LONG_SHEETS: usize = 40;
 const CORNER_SHEETS: usize = 24;
 /// This many sheets, most of them refused, get a few arcs.
 const DAMAGED_SHEETS: usize = 20_000;
+/// Every discount rate up to this one gets quotients beside whole numbers.
+const HIGHEST_RATE: i64 = 200_000;
 
 /// The outcomes that are told apart when they are counted.
 #[derive(Clone, Copy, PartialEq, Eq, PartialOrd, Ord)]
@@ -39,6 +42,8 @@ enum Kind {
     Costed {
         option: u64,
     },
+    /// As well as the kind above.
+    Quotient(Division, Rest),
 }
 
 impl Kind {
@@ -68,11 +73,15 @@ impl Kind {
             .into_iter()
             .flat_map(|option| [false, true].map(|offered| Kind::Empty { option, offered }));
         let costed = (0..3).map(|option| Kind::Costed { option });
+        let quotients = DIVISIONS
+            .into_iter()
+            .flat_map(|division| RESTS.map(|rest| Kind::Quotient(division, rest)));
         sheets
             .map(Kind::RefusedSheet)
             .chain(faults.map(Kind::RefusedArc))
             .chain(empty)
             .chain(costed)
+            .chain(quotients)
     }
 
     fn described(self) -> String {
@@ -83,6 +92,7 @@ impl Kind {
                 format!("length 0 of option {option}, offered {offered},")
             }
             Kind::Costed { option } => format!("a cost of option {option}"),
+            Kind::Quotient(division, rest) => format!("{division:?} with rest {rest:?}"),
         }
     }
 }
@@ -156,6 +166,19 @@ impl Comparison {
         Ok(())
     }
 
+    /// At every discount rate, both divisions with quotients that are whole, just above and just
+    /// below a whole number.
+    fn every_rate(&mut self, random: &mut Random) -> Result<(), String> {
+        for rate in 0..=HIGHEST_RATE {
+            for quotient in quotients(random, rate) {
+                self.compare(&quotient.sheet, quotient.arc)?;
+                let kind = Kind::Quotient(quotient.division, quotient.rest);
+                self.tally.saw(kind);
+            }
+        }
+        Ok(())
+    }
+
     /// With and without a fault of the arc: the sheet's refusal comes first.
     fn damaged_sheets(&mut self, random: &mut Random) -> Result<(), String> {
         for _ in 0..DAMAGED_SHEETS {
@@ -166,6 +189,15 @@ impl Comparison {
             }
         }
         Ok(())
+    }
+
+    fn summary(&self) -> Result<String, String> {
+        let kinds = Kind::all().map(|kind| (kind, kind.described()));
+        let calls = self.tally.summary("arcs", kinds, LEAST_SEEN)?;
+        Ok(format!(
+            "{calls}; at every rate to {HIGHEST_RATE}, both divisions with quotients that are \
+             whole, just above and just below a whole number"
+        ))
     }
 }
 
@@ -178,6 +210,6 @@ pub fn compare_costs(seed: u64) -> Result<String, String> {
     comparison.near_limits(&mut random, long_sheet, LONG_SHEETS)?;
     comparison.near_limits(&mut random, corner_sheet, CORNER_SHEETS)?;
     comparison.damaged_sheets(&mut random)?;
-    let kinds = Kind::all().map(|kind| (kind, kind.described()));
-    comparison.tally.summary("arcs", kinds, LEAST_SEEN)
+    comparison.every_rate(&mut random)?;
+    comparison.summary()
 }

@@ -1,20 +1,22 @@
 //! The comparison of the library's planning with the independent one: the answer, and all that
-//! is in the buffers afterwards.
+//! is in the buffers afterwards. The totals are also compared with the exact values of their
+//! chains, and where all chains are listed, the planned chain with every other one.
 
 use crate::answer::{described, Answer};
 use crate::cases::{case_10, case_11, case_12, case_9, paper_sheet};
 use crate::check::checked;
 use crate::compare::possible_answers;
 use crate::damaged::random_sheet;
+use crate::exact::{judge_total, totals_judged, Exact};
 use crate::lent::Lent;
 use crate::library;
-use crate::listing::listed;
+use crate::listing::{feasible_chains, listed};
 use crate::parts::Parts;
 use crate::plan::{plan_bytes, written, HEAD_BYTES, TOTAL};
 use crate::planner::{planned, Planned};
 use crate::random::Random;
 use crate::report::{difference, hex, Tally};
-use crate::sheet::{unsigned, HORIZON};
+use crate::sheet::{unsigned, Sheet, HORIZON};
 use crate::sheets::*;
 use std::collections::BTreeSet;
 
@@ -153,6 +155,8 @@ fn enough_words(random: &mut Random) -> usize {
 struct Comparison {
     tally: Tally<Kind>,
     sheets: u64,
+    /// How many chains were listed of the sheets up to the listed horizon.
+    chains: u64,
     random: Random,
 }
 
@@ -161,14 +165,32 @@ impl Comparison {
     fn plan(&mut self, bytes: &[u8]) -> Result<Outcome, String> {
         let sheet = checked(bytes).map_err(|_| format!("not a sheet: {}", hex(bytes)))?;
         let planned = planned(&sheet);
-        if sheet.horizon <= LISTED_HORIZON && planned != listed(&sheet) {
-            return Err(format!(
-                "the peer's listing differs from its dynamic program: {}",
-                hex(bytes)
-            ));
+        if sheet.horizon <= LISTED_HORIZON {
+            self.compare_listed(&sheet, &planned)
+                .map_err(|fault| format!("{fault}: {}", hex(bytes)))?;
         }
         self.count(bytes, &planned);
         Ok(Outcome::Planned(planned))
+    }
+
+    /// The listing plans the same, and no chain is far below the planned one in exact value.
+    fn compare_listed(&mut self, sheet: &Sheet, planned: &Planned) -> Result<(), String> {
+        if *planned != listed(sheet) {
+            return Err("the peer's listing differs from its dynamic program".into());
+        }
+        let Some(choice) = &planned.choice else {
+            return Ok(());
+        };
+        let value = Exact::of(sheet, &choice.chain);
+        for chain in feasible_chains(sheet) {
+            if value.is_far_above(&Exact::of(sheet, &chain)) {
+                return Err(format!(
+                    "{chain:?} is more than (5T² + 3T)/2 units below the planned chain"
+                ));
+            }
+            self.chains += 1;
+        }
+        Ok(())
     }
 
     fn count(&mut self, sheet: &[u8], planned: &Planned) {
@@ -223,7 +245,8 @@ impl Comparison {
         Ok(())
     }
 
-    /// The written plan is priced at the total that is answered, and holds it.
+    /// The written plan is priced at the total that is answered, and holds it; the exact value
+    /// allows it.
     fn accepted(
         &mut self,
         sheet: &[u8],
@@ -241,6 +264,7 @@ impl Comparison {
                 hex(sheet)
             ));
         }
+        judge_total(sheet, plan, held)?;
         self.tally.saw(if lent.plan_length() == plan_bytes {
             Kind::ExactPlan
         } else {
@@ -347,8 +371,11 @@ impl Comparison {
         .map(|kind| self.tally.seen(kind));
         Ok(format!(
             "{calls}: number 0 {accepted} times, 10 {few_words}, 11 {no_chain}, 12 {short_plan}; \
-             {} sheets planned, {ties} with ties",
-            self.sheets
+             {} sheets planned, {ties} with ties; {}; up to T {LISTED_HORIZON} none of {} chains \
+             more than that below the planned one",
+            self.sheets,
+            totals_judged(accepted),
+            self.chains
         ))
     }
 }
@@ -357,6 +384,7 @@ pub fn compare_plans(seed: u64) -> Result<String, String> {
     let mut comparison = Comparison {
         tally: Tally::new(),
         sheets: 0,
+        chains: 0,
         random: Random(seed),
     };
     comparison.cases()?;

@@ -1,8 +1,10 @@
-//! The comparison of the library's totals with the independent ones.
+//! The comparison of the library's totals with the independent ones, and with the exact values of
+//! their chains.
 
 use crate::answer::described;
 use crate::compare::possible_answers;
 use crate::damaged::random_sheet;
+use crate::exact::{judge_total, totals_judged};
 use crate::library;
 use crate::parts::Parts;
 use crate::plan::{read, written, Chain, Missing};
@@ -99,6 +101,8 @@ impl Kind {
 
 struct Comparison {
     tally: Tally<Kind>,
+    /// How many plans were accepted, each total judged by the exact value.
+    totals: u64,
 }
 
 impl Comparison {
@@ -116,7 +120,16 @@ impl Comparison {
         }
         self.tally.compared += 1;
         self.tally.saw(Kind::of(sheet, plan, &outcome));
-        if outcome.is_ok() && unsigned(sheet, HORIZON) == 300 {
+        if outcome.is_ok() {
+            self.accepted(sheet, plan, answer / 256)?;
+        }
+        Ok(())
+    }
+
+    fn accepted(&mut self, sheet: &[u8], plan: &[u8], total: u64) -> Result<(), String> {
+        judge_total(sheet, plan, total)?;
+        self.totals += 1;
+        if unsigned(sheet, HORIZON) == 300 {
             self.tally.saw(Kind::PricedTo300);
         }
         Ok(())
@@ -200,12 +213,19 @@ impl Comparison {
         }
         Ok(())
     }
+
+    fn summary(&self) -> Result<String, String> {
+        let kinds = Kind::all().map(|kind| (kind, kind.described()));
+        let calls = self.tally.summary("plans", kinds, LEAST_SEEN)?;
+        Ok(format!("{calls}; {}", totals_judged(self.totals)))
+    }
 }
 
 pub fn compare_prices(seed: u64) -> Result<String, String> {
     let mut random = Random(seed);
     let mut comparison = Comparison {
         tally: Tally::new(),
+        totals: 0,
     };
     comparison.some_plans(&mut random, chained_sheet, CHAINED_SHEETS)?;
     comparison.some_plans(&mut random, small_sheet, SMALL_SHEETS)?;
@@ -214,6 +234,5 @@ pub fn compare_prices(seed: u64) -> Result<String, String> {
     comparison.swept_plans(&mut random)?;
     comparison.corner_plans(&mut random)?;
     comparison.damaged_sheets(&mut random)?;
-    let kinds = Kind::all().map(|kind| (kind, kind.described()));
-    comparison.tally.summary("plans", kinds, LEAST_SEEN)
+    comparison.summary()
 }

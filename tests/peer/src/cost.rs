@@ -1,5 +1,6 @@
-//! What an arc costs, and refusal 13, written from document 01 alone. Every payment is moved
-//! forward on its own, from its amount in year 0 to its year.
+//! What an arc costs, and refusal 13, written from document 01 and the rounding of document 02's
+//! request 1 alone. Every payment is moved forward on its own, from its amount in year 0 to its
+//! year.
 
 use crate::answer::Answer;
 use crate::check::checked;
@@ -150,15 +151,15 @@ impl Payment {
     }
 }
 
-/// Plain: a becomes a × (1,000,000 + f) / (1,000,000 + r), nearest.
+/// Plain: a becomes a × (1,000,000 + f) / (1,000,000 + r), rounded up.
 fn plain(a: u128, r: i64, f: i64) -> u128 {
-    nearest(a * factor(f), factor(r))
+    up(a * factor(f), factor(r))
 }
 
-/// In service: first a × (1,000,000 + g) / 1,000,000, nearest; that result then takes the plain
-/// step.
+/// In service: first a × (1,000,000 + g) / 1,000,000, rounded up; that result then takes the
+/// plain step.
 fn in_service(a: u128, r: i64, f: i64, g: i64) -> u128 {
-    plain(nearest(a * factor(g), MILLION), r, f)
+    plain(up(a * factor(g), MILLION), r, f)
 }
 
 fn factor(rate: i64) -> u128 {
@@ -166,14 +167,19 @@ fn factor(rate: i64) -> u128 {
     factor.expect("a checked rate is -100,000 or more")
 }
 
-/// The whole part of the quotient and a half: to the nearest whole unit, a half going up.
-fn nearest(dividend: u128, divisor: u128) -> u128 {
-    (2 * dividend + divisor) / (2 * divisor)
+/// The quotient rounded up to a whole unit: its whole part, and 1 more if a rest is left.
+fn up(dividend: u128, divisor: u128) -> u128 {
+    let whole = dividend / divisor;
+    match dividend % divisor {
+        0 => whole,
+        _ => whole + 1,
+    }
 }
 
 #[cfg(test)]
 mod tests {
     use super::*;
+    use crate::cases::paper_sheet;
     use crate::sheet::*;
 
     fn lives(option: usize, shortest: i64, longest: i64) -> [(Field, i64); 2] {
@@ -200,16 +206,43 @@ mod tests {
     }
 
     #[test]
+    fn a_rest_counts_as_a_unit_however_small() {
+        for divisor in [2, 3, 1_000_000, 1_040_000, 1_199_999, 1_200_000] {
+            for whole in [0, 1, 9_615, 10_000_000_000_000] {
+                let dividend = whole * divisor;
+                assert_eq!(up(dividend, divisor), whole);
+                assert_eq!(up(dividend + 1, divisor), whole + 1);
+                assert_eq!(up(dividend + divisor - 1, divisor), whole + 1);
+            }
+        }
+        assert_eq!(up(7, 1), 7);
+    }
+
+    #[test]
     fn cases_1_to_3_plain() {
-        assert_eq!(plain(10_000, 40_000, 0), 9_615);
-        assert_eq!(plain(9_615, 40_000, 0), 9_245);
+        assert_eq!(plain(10_000, 40_000, 0), 9_616);
+        assert_eq!(plain(9_616, 40_000, 0), 9_247);
         assert_eq!(plain(5, 0, -100_000), 5);
+    }
+
+    // 3 × 9/12 is 2.25, and 4 × 9/12 is 3.
+    #[test]
+    fn a_plain_step_with_a_small_rest_and_with_none() {
+        assert_eq!(plain(3, 200_000, -100_000), 3);
+        assert_eq!(plain(4, 200_000, -100_000), 3);
     }
 
     #[test]
     fn cases_4_and_5_in_service() {
         assert_eq!(in_service(10_000, 40_000, 0, 20_000), 9_808);
         assert_eq!(in_service(10_000, 40_000, 10_000, 20_000), 9_906);
+    }
+
+    // Aged, 10,001 is 10,201.02, so 10,202, which the discount makes 9,809.6; from 10,201 it would
+    // be 9,808.7.
+    #[test]
+    fn an_ageing_with_a_small_rest() {
+        assert_eq!(in_service(10_001, 40_000, 0, 20_000), 9_810);
     }
 
     /// The sheet of cases 6 to 8, without the overhaul.
@@ -231,9 +264,29 @@ mod tests {
 
     #[test]
     fn cases_6_to_8_arcs() {
-        assert_eq!(cost_on(&case_sheet(), 2, 1, 3), Ok(27_749));
-        assert_eq!(cost_on(&case_sheet_with_overhaul(), 2, 1, 3), Ok(36_994));
-        assert_eq!(cost_on(&case_sheet_with_overhaul(), 2, 1, 2), Ok(18_860));
+        assert_eq!(cost_on(&case_sheet(), 2, 1, 3), Ok(27_755));
+        assert_eq!(cost_on(&case_sheet_with_overhaul(), 2, 1, 3), Ok(37_002));
+        assert_eq!(cost_on(&case_sheet_with_overhaul(), 2, 1, 2), Ok(18_863));
+    }
+
+    /// The arcs of the paper's case study in units, and in its Table 5 in euros.
+    const CASE_STUDY: [(u64, u64); 5] = [
+        (32_376_325_834, 3_237_632),
+        (5_476_429_609, 547_643),
+        (936_951_814, 93_695),
+        (161_521_417, 16_152),
+        (27_986_885, 2_798),
+    ];
+
+    #[test]
+    fn the_case_study_is_less_than_a_euro_from_the_paper_arc_by_arc() {
+        for (start, (units, euros)) in (0..).step_by(60).zip(CASE_STUDY) {
+            let outcome = cost_on(&paper_sheet(), 2, start, start + 60);
+            assert_eq!(outcome, Ok(units));
+            assert!(units.abs_diff(euros * 10_000) < 10_000);
+        }
+        let total: u64 = CASE_STUDY.iter().map(|(units, _)| units).sum();
+        assert_eq!(total, 38_979_215_559);
     }
 
     // With r 0 a plain step by f −100,000 takes a tenth away, and ageing by 100,000 adds one.

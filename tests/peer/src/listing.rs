@@ -112,6 +112,10 @@ fn replacements_total(costs: &Costs, from: i64, ends: &[i64]) -> u64 {
     arcs.map(|arc| costs.0[&arc]).sum()
 }
 
+pub fn feasible_chains(sheet: &Sheet) -> Vec<Chain> {
+    all_chains(&Costs::on(sheet), sheet.horizon)
+}
+
 pub fn listed(sheet: &Sheet) -> Planned {
     let costs = Costs::on(sheet);
     let horizon = sheet.horizon;

@@ -1,6 +1,6 @@
 //! Compares nimovalsa_check, nimovalsa_cost, nimovalsa_price and nimovalsa_plan of
 //! libnimovalsa.a with independent implementations of them on many sheets, arcs, plans and
-//! buffers.
+//! buffers, and the totals that are printed with the exact values of their chains.
 //!
 //! Use: peer [SEED [COUNT]]. Equal arguments give equal sheets, arcs, plans and buffers.
 //! COUNT is the number of sheets that are checked. They start as valid ones and then get values
@@ -22,14 +22,17 @@ mod compare_prices;
 mod cost;
 mod damaged;
 mod edits;
+mod exact;
 mod lent;
 mod library;
 mod listing;
+mod natural;
 mod parts;
 mod plan;
 mod planner;
 mod plans;
 mod price;
+mod quotients;
 mod random;
 mod report;
 mod sheet;

@@ -11,22 +11,22 @@ returns : tie.Need-returns
 unfolding inService plain
 returns c =
     let a = c .before .before .before .args in
-    c .nearest-by .ensures ∙ ap (λ (aged : ℕ). divided (aged * a .grow) (a .discount .by)) (c .before .nearest .ensures)
+    c .up-by .ensures ∙ ap (λ (aged : ℕ). divided (aged * a .grow) (a .discount .by)) (c .before .up .ensures)
 
-mul-nearest : tie.Need-mul-nearest
-mul-nearest c = omega (arith, age-room _ _ _ _ (c .before .pre .0))
+mul-up : tie.Need-mul-up
+mul-up c = omega (arith, age-room _ _ _ _ (c .before .pre .0))
 
-nearest-requires : tie.Need-nearest-requires
-nearest-requires c κs = (omega arith, omega arith, omega (arith, age-room _ _ _ _ (c .before .pre .0)))
+up-requires : tie.Need-up-requires
+up-requires c κs = (omega arith, omega arith, omega (arith, age-room _ _ _ _ (c .before .pre .0)))
 
-mul-nearest-by : tie.Need-mul-nearest-by
-mul-nearest-by c = rw (c .nearest .ensures) (omega (arith, aged-fits _ _ _ _ (c .before .before .pre .0)))
+mul-up-by : tie.Need-mul-up-by
+mul-up-by c = rw (c .up .ensures) (omega (arith, aged-fits _ _ _ _ (c .before .before .pre .0)))
 
-nearest-by-requires : tie.Need-nearest-by-requires
-nearest-by-requires c κs =
+up-by-requires : tie.Need-up-by-requires
+up-by-requires c κs =
     let s = c .before .before .pre in
-    rw (c .nearest .ensures) (s .1, omega (arith, aged-fits _ _ _ _ (s .0)))
+    rw (c .up .ensures) (s .1, omega (arith, aged-fits _ _ _ _ (s .0)))
 
 pub in-service-spec : {M : Type 1} → statement M
 in-service-spec =
-    tie.close (tie.spec mul-nearest nearest-requires mul-nearest-by nearest-by-requires returns)
+    tie.close (tie.spec mul-up up-requires mul-up-by up-by-requires returns)

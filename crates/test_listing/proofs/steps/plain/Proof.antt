@@ -13,8 +13,8 @@ abbrev μ-loop : tie.MeasureT-loop
 loop-holds : tie.Need-loop-holds Inv-loop μ-loop
 loop-holds c = search needs
 
-nearest-requires : tie.Need-nearest-requires Inv-loop μ-loop
-nearest-requires c κs = search needs
+up-requires : tie.Need-up-requires Inv-loop μ-loop
+up-requires c κs = search needs
 
 add-counter : tie.Need-add-counter Inv-loop μ-loop
 add-counter c = search needs
@@ -31,4 +31,4 @@ returns c = search needs
 pub plain-spec : {M : Type 1} → statement M
 plain-spec =
     tie.close
-    (tie.spec Inv-loop μ-loop loop-holds nearest-requires add-counter loop-less loop-again returns)
+    (tie.spec Inv-loop μ-loop loop-holds up-requires add-counter loop-less loop-again returns)

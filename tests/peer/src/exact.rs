@@ -1,0 +1,328 @@
+//! The exact value of a chain, and how far from it a total may lie, written from documents 01 and
+//! 02 alone: the payments of its arcs, each moved by the products and quotients of its steps as a
+//! fraction, without rounding. Fractions of year y are over 10^(6y) × (10^6 + r)^y, so the value is
+//! over 10^(6T) × (10^6 + r)^T.
+
+use crate::check::checked;
+use crate::natural::Natural;
+use crate::plan::{read, Chain};
+use crate::report::hex;
+use crate::sheet::{Flow, Record, Sheet, OPTIONS};
+
+const UNITS: u64 = 10_000;
+const MILLION: u64 = 1_000_000;
+
+/// An error if document 02 does not allow the total that is printed for an accepted plan.
+pub fn judge_total(sheet: &[u8], plan: &[u8], total: u64) -> Result<(), String> {
+    let read_sheet = checked(sheet).expect("an accepted sheet");
+    let chain = read(plan).expect("an accepted plan");
+    match Exact::of(&read_sheet, &chain).fault(total) {
+        None => Ok(()),
+        Some(fault) => Err(format!(
+            "the total {total} of plan {} {fault}: {}",
+            hex(plan),
+            hex(sheet)
+        )),
+    }
+}
+
+/// What a comparison says of so many totals that it judged.
+pub fn totals_judged(count: u64) -> String {
+    format!("all {count} totals, up to T 300, from 0 to (5T² + 3T)/2 units above their exact value")
+}
+
+pub struct Exact {
+    horizon: u64,
+    numerator: Natural,
+    denominator: Natural,
+}
+
+impl Exact {
+    /// The chain is feasible on the sheet, which passes the check.
+    pub fn of(sheet: &Sheet, chain: &Chain) -> Exact {
+        let mut walk = Walk::on(sheet);
+        for (option, start, end) in chain.activities() {
+            if start < end {
+                walk.keep(option, end - start);
+            }
+        }
+        Exact {
+            horizon: sheet.horizon as u64,
+            numerator: walk.value,
+            denominator: walk.denominator,
+        }
+    }
+
+    /// What is wrong with a printed total: by document 02 it is never below the exact value, and
+    /// at most (5T² + 3T)/2 units above it.
+    fn fault(&self, total: u64) -> Option<&'static str> {
+        let printed = self.denominator.times(2 * total);
+        if printed < self.numerator.times(2) {
+            Some("is below the exact value")
+        } else if printed > self.doubled_with_allowance() {
+            Some("is more than (5T² + 3T)/2 units above the exact value")
+        } else {
+            None
+        }
+    }
+
+    /// Whether another chain of the sheet is more than (5T² + 3T)/2 units below this one.
+    pub fn is_far_above(&self, other: &Exact) -> bool {
+        self.numerator.times(2) > other.doubled_with_allowance()
+    }
+
+    /// Twice the numerator of the value and (5T² + 3T)/2 units.
+    fn doubled_with_allowance(&self) -> Natural {
+        let allowance = 5 * self.horizon * self.horizon + 3 * self.horizon;
+        let mut sum = self.numerator.times(2);
+        sum.add_times(&self.denominator, allowance);
+        sum
+    }
+}
+
+fn factor(rate: i64) -> u64 {
+    (MILLION as i64 + rate) as u64
+}
+
+/// The numerator of a fraction that moves forward, and by what it is multiplied each year.
+struct Moving {
+    numerator: Natural,
+    each_year: u64,
+}
+
+impl Moving {
+    /// From 1, by plain steps: × (10^6 + f) / (10^6 + r), both multiplied by 10^6, as the
+    /// denominator is the same for all payments.
+    fn plainly(inflation: i64) -> Moving {
+        Moving {
+            numerator: Natural::one(),
+            each_year: factor(inflation) * MILLION,
+        }
+    }
+
+    /// From an amount after plain steps, in service: × (10^6 + g) / 10^6 × (10^6 + f) / (10^6 + r).
+    fn in_service(flow: &Flow, plain: &Moving) -> Moving {
+        Moving {
+            numerator: plain.numerator.times(units(flow.amount)),
+            each_year: factor(flow.ageing) * factor(flow.inflation),
+        }
+    }
+
+    fn next_year(&mut self) {
+        self.numerator.multiply(self.each_year);
+    }
+}
+
+fn units(amount: i64) -> u64 {
+    amount as u64 * UNITS
+}
+
+/// What 1 of each payment of an option becomes by plain steps alone.
+struct Plain {
+    investment: Moving,
+    maintenance: Moving,
+    electricity: Moving,
+    overhaul: Moving,
+}
+
+impl Plain {
+    fn of(record: &Record) -> Plain {
+        Plain {
+            investment: Moving::plainly(record.investment_inflation),
+            maintenance: Moving::plainly(record.maintenance.inflation),
+            electricity: Moving::plainly(record.electricity.inflation),
+            overhaul: Moving::plainly(record.overhaul_inflation),
+        }
+    }
+
+    fn next_year(&mut self) {
+        self.investment.next_year();
+        self.maintenance.next_year();
+        self.electricity.next_year();
+        self.overhaul.next_year();
+    }
+}
+
+/// The value of the arcs up to the year that is reached.
+struct Walk<'a> {
+    records: &'a [Record; OPTIONS],
+    plain: [Plain; OPTIONS],
+    value: Natural,
+    denominator: Natural,
+    /// 10^6 × (10^6 + r).
+    each_year: u64,
+}
+
+impl Walk<'_> {
+    fn on(sheet: &Sheet) -> Walk<'_> {
+        Walk {
+            records: &sheet.records,
+            plain: [0, 1, 2].map(|option| Plain::of(&sheet.records[option])),
+            value: Natural::zero(),
+            denominator: Natural::one(),
+            each_year: MILLION * factor(sheet.rate),
+        }
+    }
+
+    /// Keeps an option for some years, 1 or more.
+    fn keep(&mut self, option: usize, length: i64) {
+        let record = &self.records[option];
+        let plain = &self.plain[option];
+        let mut maintenance = Moving::in_service(&record.maintenance, &plain.maintenance);
+        let mut electricity = Moving::in_service(&record.electricity, &plain.electricity);
+        self.value
+            .add_times(&plain.investment.numerator, units(record.investment));
+        for age in 1..=length {
+            self.next_year(option);
+            for flow in [&mut maintenance, &mut electricity] {
+                flow.next_year();
+                self.value.add(&flow.numerator);
+            }
+            if age < length {
+                self.overhaul(option, age);
+            }
+        }
+    }
+
+    /// An option before the present one does not come again, so its payments stay behind.
+    fn next_year(&mut self, option: usize) {
+        self.value.multiply(self.each_year);
+        self.denominator.multiply(self.each_year);
+        self.plain[option..].iter_mut().for_each(Plain::next_year);
+    }
+
+    fn overhaul(&mut self, option: usize, age: i64) {
+        let record = &self.records[option];
+        let used = &record.overhauls[..record.overhaul_count as usize];
+        if let Some(due) = used.iter().find(|overhaul| overhaul.age == age) {
+            let plain = &self.plain[option].overhaul;
+            self.value.add_times(&plain.numerator, units(due.amount));
+        }
+    }
+}
+
+#[cfg(test)]
+mod tests {
+    use super::*;
+    use crate::cases::{case_12, paper_sheet};
+    use crate::check::checked;
+    use crate::sheet::*;
+
+    fn exact(bytes: &[u8], i: i64, j: i64, ends: &[i64]) -> Exact {
+        let ends = ends.to_vec();
+        Exact::of(&checked(bytes).expect("a sheet"), &Chain { i, j, ends })
+    }
+
+    /// T 2, and options that have every payment.
+    fn two_years(options: &[usize]) -> Vec<u8> {
+        let fields = [
+            (SHORTEST, 1),
+            (LONGEST, 2),
+            (INVESTMENT, 7),
+            (INVESTMENT_INFLATION, 10_300),
+            (MAINTENANCE, 5),
+            (MAINTENANCE_INFLATION, 8_500),
+            (MAINTENANCE_AGEING, 15_000),
+            (ELECTRICITY, 3),
+            (ELECTRICITY_INFLATION, -2_000),
+            (OVERHAUL_INFLATION, 10_000),
+            (OVERHAUL_COUNT, 1),
+            (overhaul_age(0), 1),
+            (overhaul_amount(0), 2),
+        ];
+        let mut sheet = with_head(2, 40_000);
+        for &option in options {
+            for (inner, value) in fields {
+                write(&mut sheet, of_option(option, inner), value);
+            }
+        }
+        sheet
+    }
+
+    // The payments over (10^6 × 1,040,000)², term by term.
+    #[test]
+    fn every_payment_of_two_years() {
+        let million: u128 = 1_000_000;
+        let year = million * 1_040_000;
+        let maintained = 1_015_000 * 1_008_500;
+        let lit = million * 998_000;
+        let kept = 7 * year * year
+            + 2 * million * 1_010_000 * year
+            + 5 * (maintained * year + maintained * maintained)
+            + 3 * (lit * year + lit * lit);
+        for (option, i, j, ends) in [(0, 2, 2, &[][..]), (1, 0, 2, &[]), (2, 0, 0, &[2])] {
+            let value = exact(&two_years(&[option]), i, j, ends);
+            assert_eq!(value.numerator, (10_000 * kept).into());
+            assert_eq!(value.denominator, (year * year).into());
+        }
+        let renewed = 7 * (year * year + million * 1_010_300 * year)
+            + 5 * (maintained * year + million * 1_008_500 * maintained)
+            + 3 * (lit * year + lit * lit);
+        let sheet = two_years(&[0, 1, 2]);
+        for (i, j, ends) in [(0, 0, &[1, 2][..]), (0, 1, &[2]), (1, 1, &[2]), (1, 2, &[])] {
+            let value = exact(&sheet, i, j, ends);
+            assert_eq!(value.numerator, (10_000 * renewed).into());
+        }
+    }
+
+    // Nothing is rounded: the total is the exact value. (5 × 4² + 3 × 4)/2 is 46.
+    #[test]
+    fn the_limits_of_a_total() {
+        let value = exact(&case_12(), 0, 0, &[2, 4]);
+        assert_eq!(value.fault(239_999), Some("is below the exact value"));
+        assert_eq!(value.fault(240_000), None);
+        assert_eq!(value.fault(240_046), None);
+        let above = "is more than (5T² + 3T)/2 units above the exact value";
+        assert_eq!(value.fault(240_047), Some(above));
+    }
+
+    // T 1, one payment of 1 in year 0 and one of 1 / 1.04: 19,615.38 units; the allowance is 4.
+    #[test]
+    fn a_total_beside_a_fraction() {
+        let mut sheet = with_head(1, 40_000);
+        for (inner, value) in [
+            (SHORTEST, 1),
+            (LONGEST, 1),
+            (INVESTMENT, 1),
+            (MAINTENANCE, 1),
+        ] {
+            write(&mut sheet, of_option(2, inner), value);
+        }
+        let value = exact(&sheet, 0, 0, &[1]);
+        for (total, holds) in [
+            (19_615, false),
+            (19_616, true),
+            (19_619, true),
+            (19_620, false),
+        ] {
+            assert_eq!(value.fault(total).is_none(), holds);
+        }
+    }
+
+    // Chains of case 12 that cost 24 and 34; then values 46 and 47 units above that of the first.
+    #[test]
+    fn the_limit_of_a_loss() {
+        let [least, other] = [&[2, 4][..], &[1, 2, 4]].map(|ends| exact(&case_12(), 0, 0, ends));
+        assert!(other.is_far_above(&least));
+        assert!(!least.is_far_above(&other));
+        assert!(!least.is_far_above(&least));
+        let moved = |units: u64| {
+            let mut value = exact(&case_12(), 0, 0, &[2, 4]);
+            value.numerator.add_times(&least.denominator, units);
+            value
+        };
+        assert!(!moved(46).is_far_above(&least));
+        assert!(moved(47).is_far_above(&least));
+    }
+
+    // By fractions, worked out apart: 38,979,203,928.8765 units.
+    #[test]
+    fn the_case_study_of_the_paper() {
+        let value = exact(&paper_sheet(), 0, 0, &[60, 120, 180, 240, 300]);
+        let hundredths = value.numerator.times(100);
+        assert!(hundredths > value.denominator.times(3_897_920_392_887));
+        assert!(hundredths < value.denominator.times(3_897_920_392_888));
+        assert_eq!(value.fault(38_979_215_559), None);
+        assert!(value.fault(38_979_203_928).is_some());
+    }
+}
