@@ -2,14 +2,15 @@
  * An asset register that plans with Nimovalsa.
  *
  * For each asset it prints the chain of activities of least present value, an
- * activity a line, and beside it what the planner's habit would cost. The
- * pumping station has the figures of the paper's case study; the lock, the
- * bridges and all habits are made up.
+ * activity a line; the budget of its first years for the ledger, a year a line,
+ * in money of that year and as present value; and what the planner's habit
+ * would cost. The pumping station has the figures of the paper's case study;
+ * the lock, the bridges, general inflation and all habits are made up.
  *
- * A refusal of an asset's figures or of a habit is printed, and the next asset
- * follows: the register has one of each, to show it. The status is 1 if
- * something else goes wrong, among it arcs that do not add up to the total of
- * their plan.
+ * A refusal of an asset's figures, of general inflation or of a habit is
+ * printed, and what comes behind it follows: the register has one of the first
+ * and one of the last, to show it. The status is 1 if something else goes
+ * wrong, among it arcs or years that do not add up to the total of their plan.
  */
 #include <nimovalsa.h>
 #include <nimovalsa_sheet.h>
@@ -19,6 +20,9 @@
 #include <stdio.h>
 
 enum { PLAN_BYTES = NIMOVALSA_PLAN_BYTES(NIMOVALSA_LONGEST_HORIZON) };
+
+/* In millionths a year; the same for all assets. */
+enum { GENERAL_INFLATION = 20000 };
 
 /*
  * What the register holds of an option, in euros of year 0, years and
@@ -130,6 +134,8 @@ static const char *const refusals[] = {
     [12] = "the buffer is too short for the plan",
     [13] = "the option is not offered from that year to that year",
     [14] = "the chain is not feasible",
+    [15] = "general inflation is above 5 per cent",
+    [16] = "too few words are lent for the years",
 };
 
 /*
@@ -208,12 +214,15 @@ static bool fault(const char *what)
     return false;
 }
 
+static void print_cents(uint64_t cents)
+{
+    printf("%10" PRIu64 ".%02" PRIu64 " euros", cents / 100, cents % 100);
+}
+
 /* Units in cents, rounded up, so that none is understated; 100 to a cent. */
 static void print_euros(uint64_t units)
 {
-    uint64_t cents = (units + 99) / 100;
-
-    printf("%10" PRIu64 ".%02" PRIu64 " euros", cents / 100, cents % 100);
+    print_cents((units + 99) / 100);
 }
 
 static void print_amount(const char *what, uint64_t units)
@@ -268,6 +277,60 @@ static bool show_chain(const uint8_t *sheet,
     print_amount("least total", chain->total);
     putchar('\n');
     return sum == chain->total || fault("the arcs do not add up to the total");
+}
+
+/*
+ * Prints what is paid in each of the first years. The left column is money of
+ * that year, the right one present value: one is never added to the other.
+ */
+static void print_years(const uint64_t *units, const uint64_t *cents,
+                        unsigned last)
+{
+    printf("  budget, with general inflation of %.1f per cent a year\n",
+           GENERAL_INFLATION / 10000.0);
+    printf("           %19s   %19s\n", "money of the year", "present value");
+    for (unsigned year = 0; year <= last; year++) {
+        printf("  year %3u ", year);
+        print_cents(cents[year]);
+        printf("   ");
+        print_euros(units[year]);
+        putchar('\n');
+    }
+}
+
+/*
+ * Prints the sum of the present values, in their column. Each line is rounded
+ * up to cents by itself; in units the years must add up to the total.
+ */
+static bool add_years(const uint64_t *units, unsigned horizon, uint64_t total)
+{
+    uint64_t sum = 0;
+
+    for (unsigned year = 0; year <= horizon; year++)
+        sum += units[year];
+    printf("  years 0 to %-20u", horizon);
+    print_euros(sum);
+    putchar('\n');
+    return sum == total || fault("the years do not add up to the total");
+}
+
+/* The budget of a plan; general inflation may be refused, with 15. */
+static bool show_budget(const uint8_t *sheet, const uint8_t *plan,
+                        unsigned horizon, const struct nimovalsa_chain *chain)
+{
+    uint64_t units[NIMOVALSA_BUDGET_UNITS], cents[NIMOVALSA_BUDGET_CENTS];
+    unsigned last = NIMOVALSA_BUDGET_CENTS - 1;
+    uint64_t answer = nimovalsa_budget(
+        sheet, NIMOVALSA_SHEET_BYTES, plan, NIMOVALSA_PLAN_BYTES(chain->count),
+        GENERAL_INFLATION, units, NIMOVALSA_BUDGET_UNITS, cents,
+        NIMOVALSA_BUDGET_CENTS);
+
+    if (refused(answer)) {
+        print_refusal("budget", answer);
+        return nimovalsa_number(answer) == 15 || fault("a budget is refused");
+    }
+    print_years(units, cents, horizon < last ? horizon : last);
+    return add_years(units, horizon, chain->total);
 }
 
 /* The last replacement is given up at the horizon, however young it is. */
@@ -340,7 +403,9 @@ static bool show_plan(const uint8_t *sheet, const struct asset *asset)
     }
     if (!nimovalsa_plan_decode(bytes, sizeof bytes, &chain))
         return fault("a plan cannot be read");
-    return show_chain(sheet, &chain) && show_habit(sheet, asset, chain.total);
+    return show_chain(sheet, &chain) &&
+           show_budget(sheet, bytes, asset->horizon, &chain) &&
+           show_habit(sheet, asset, chain.total);
 }
 
 static bool show_asset(const struct asset *asset)

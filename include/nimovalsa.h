@@ -172,7 +172,7 @@ uint64_t nimovalsa_cost(const uint8_t *sheet, size_t length, uint64_t option,
  *     at any alignment. With length 0 it may be any pointer, also NULL.
  *   - nothing changes those bytes during the call.
  *   - NIMOVALSA_PRICE_STACK bytes of stack are free. The call was measured
- *     to use 1,664 bytes; tests/c measures it again and fails above the figure
+ *     to use 1,728 bytes; tests/c measures it again and fails above the figure
  *     here. It is not proved.
  */
 #define NIMOVALSA_PRICE_STACK 8192
@@ -231,6 +231,67 @@ uint64_t nimovalsa_price(const uint8_t *sheet, size_t sheet_length,
 uint64_t nimovalsa_plan(const uint8_t *sheet, size_t sheet_length,
                         uint8_t *plan, size_t plan_length, uint64_t *words,
                         size_t words_count);
+
+/*
+ * Budgets a plan: writes what its chain pays in each year, as two lists of
+ * words. The total of the answer is that of nimovalsa_price. general is the
+ * general inflation, in millionths a year; it may be any number.
+ *
+ * The number is that of the first fault, or 0 if there is none. Faults are
+ * looked for in the order 1 to 9, as nimovalsa_check answers them, 14, as
+ * nimovalsa_price answers it, then:
+ *
+ *  15  general above 50,000
+ *  16  units_count below T + 1; or cents_count below both T + 1 and 16
+ *
+ * Buffers: sheet and plan are only read. With number 0 these words are written,
+ * with every other number none:
+ *
+ *   units[y]  for each year y from 0 to T: the sum of the payments of year y,
+ *             each with the value that it has in the total, in units
+ *   cents[y]  for each year y from 0 to 15, or to T if that is sooner: the sum
+ *             of the same payments in money of year y, in cents, 100 to a
+ *             currency unit
+ *
+ * nimovalsa_cost says which payments an arc has and in which years. In the year
+ * in which one arc ends and the next one starts, the last maintenance and
+ * electricity of the first and the investment of the second are payments of the
+ * same year. The words of units add up to the total.
+ *
+ * In cents a payment starts at its amount * 100 and moves forward from year 0
+ * to its year, a year at a time, by (10^6 + general) / 10^6 and then by
+ * (10^6 + f) / 10^6; in the years after the start of the arc, maintenance and
+ * electricity first move by (10^6 + g) / 10^6. After each of these the result
+ * is rounded up to a whole cent. Nothing is discounted.
+ *
+ * Units are present values, and cents are money of their own year: a word of
+ * one list is never to be added to a word of the other.
+ *
+ * All other words keep their content. NIMOVALSA_BUDGET_UNITS and
+ * NIMOVALSA_BUDGET_CENTS words are enough for every sheet. What the lists hold
+ * before the call does not matter, and nothing is kept between calls.
+ *
+ * Duties of the caller, which the call cannot check:
+ *   - sheet points to sheet_length readable bytes and plan to plan_length, each
+ *     at any alignment; units points to units_count writable words and cents to
+ *     cents_count, each at the alignment of uint64_t. With length or count 0 it
+ *     may be any pointer, also NULL.
+ *   - neither units nor cents overlaps another of the four. Sheet and plan may
+ *     overlap each other.
+ *   - nothing else reads or changes units and cents during the call, and
+ *     nothing changes sheet and plan.
+ *   - NIMOVALSA_BUDGET_STACK bytes of stack are free. The call was measured to
+ *     use 3,248 bytes; tests/c measures it again and fails above the figure
+ *     here. It is not proved.
+ */
+#define NIMOVALSA_BUDGET_UNITS 301
+#define NIMOVALSA_BUDGET_CENTS 16
+#define NIMOVALSA_BUDGET_STACK 8192
+
+uint64_t nimovalsa_budget(const uint8_t *sheet, size_t sheet_length,
+                          const uint8_t *plan, size_t plan_length,
+                          uint64_t general, uint64_t *units, size_t units_count,
+                          uint64_t *cents, size_t cents_count);
 
 #ifdef __cplusplus
 }

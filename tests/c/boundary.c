@@ -1,10 +1,10 @@
 /*
- * Calls nimovalsa_check, nimovalsa_cost, nimovalsa_price and nimovalsa_plan
- * from C on good, damaged, short and long sheets and plans, on arcs with and
- * without fault, and with buffers of many lengths. Compares each answer with
- * the refusal table, the costs and the totals of document 01, and what is
- * written with its chains and words. harness.c says how the memory around a
- * call is watched.
+ * Calls nimovalsa_check, nimovalsa_cost, nimovalsa_price, nimovalsa_plan and
+ * nimovalsa_budget from C on good, damaged, short and long sheets and plans, on
+ * arcs with and without fault, and with buffers of many lengths. Compares each
+ * answer with the refusal table, the costs and the totals of document 01, and
+ * what is written with its chains and words and with the budget of document 02.
+ * harness.c says how the memory around a call is watched.
  *
  * Status: 0 if all is as expected, 1 if not, 2 for wrong use.
  */
@@ -20,19 +20,24 @@ int main(int argc, char **argv)
     }
     start_harness();
     start_lending();
+    start_ledgers();
     test_checking();
     test_costing();
     test_chains();
     test_pricing();
     test_planning();
+    test_budgets();
+    test_budgeting();
     test_stack(&checking);
     test_stack(&costing);
     test_stack(&pricing);
     test_stack(&planning);
+    test_stack(&budgeting);
     printf("c boundary: %lu calls as expected, stack %zu bytes for "
            "nimovalsa_check, %zu for nimovalsa_cost, %zu for "
-           "nimovalsa_price, %zu for nimovalsa_plan\n",
+           "nimovalsa_price, %zu for nimovalsa_plan, %zu for "
+           "nimovalsa_budget\n",
            calls, checking.stack_used, costing.stack_used, pricing.stack_used,
-           planning.stack_used);
+           planning.stack_used, budgeting.stack_used);
     return 0;
 }

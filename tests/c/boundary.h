@@ -19,6 +19,8 @@ enum {
     REFUSED_SHORT_PLAN = 12 * 4 + NO_OPTION,
     REFUSED_ARC = 13 * 4 + NO_OPTION,
     REFUSED_PLAN = 14 * 4 + NO_OPTION,
+    REFUSED_GENERAL = 15 * 4 + NO_OPTION,
+    REFUSED_LISTS = 16 * 4 + NO_OPTION,
 
     LONGEST_SHEET = 4096,
     MOST_ENDS = 65535,
@@ -42,6 +44,9 @@ struct room {
 
 /* A room of at least so many bytes that may be read and written. */
 struct room make_open_room(size_t least);
+
+/* Fills an open room, each time with other noise, and copies what it holds. */
+void fill_with_noise(struct room room, unsigned char *copy);
 
 /* ---- harness.c: calls ---- */
 
@@ -134,15 +139,57 @@ void expect_outcome_at(struct bytes sheet, struct lent lent,
 void expect_outcome_with_null(struct bytes sheet, struct lent lent,
                               struct outcome outcome);
 
+/* ---- ledgers.c: budgeting in watched lists ---- */
+
+/* The last year that has a word of cents. */
+enum { LAST_OF_CENTS = 15 };
+
+/* What the lists hold after an accepted call, in the words that are written. */
+struct ledger {
+    unsigned horizon;
+    uint64_t units[MOST_YEARS + 1], cents[LAST_OF_CENTS + 1];
+};
+
+/* What budgeting is given. */
+struct asked {
+    struct input input;
+    uint64_t general;
+    size_t units_count, cents_count;
+};
+
+/* Before every other call of ledgers.c. */
+void start_ledgers(void);
+
+/* How many words are written of each list. */
+size_t units_needed(unsigned horizon);
+size_t cents_needed(unsigned horizon);
+
+/* The answer, and both lists as the ledger has them, or as they were if it is
+ * NULL; with sheet, plan and lists each ending where an unreadable page begins,
+ * and with each beginning where an unreadable page ends. */
+void expect_budget(struct asked asked, uint64_t answer,
+                   const struct ledger *ledger);
+
+/* The same with sheet and plan at these distances from their page. */
+void expect_budget_at(struct asked asked, size_t sheet_offset,
+                      size_t plan_offset, uint64_t answer,
+                      const struct ledger *ledger);
+
+/* The same with sheet and plan where they are, and NULL for empty lists. */
+void expect_budget_with_null(struct asked asked, uint64_t answer,
+                             const struct ledger *ledger);
+
 /* ---- the tests of each call ---- */
 
-extern struct subject checking, costing, pricing, planning;
+extern struct subject checking, costing, pricing, planning, budgeting;
 
 void test_checking(void);
 void test_costing(void);
 void test_chains(void);  /* pricing, by the plan's chain */
 void test_pricing(void); /* pricing, by the plan's bytes */
 void test_planning(void);
+void test_budgets(void);   /* budgeting, by what the lists hold */
+void test_budgeting(void); /* budgeting, by its refusals and buffers */
 
 /* On a sheet where checking answers this, the other calls answer the same if
  * it is a refusal, whatever the arc, plan or buffers. On an accepted sheet the
@@ -150,6 +197,7 @@ void test_planning(void);
 void expect_costing(struct bytes sheet, uint64_t answer);
 void expect_pricing(struct bytes sheet, uint64_t answer);
 void expect_planning(struct bytes sheet, uint64_t answer);
+void expect_budgeting(struct bytes sheet, uint64_t answer);
 
 /* ---- chains.c ---- */
 
@@ -177,5 +225,26 @@ struct bytes put_plan(uint8_t *plan, const struct chain *chain);
 
 /* The same of m replacements from year 0 on, of that many years each. */
 struct bytes put_even_plan(uint8_t *plan, uint16_t years, uint16_t m);
+
+/* ---- budgets.c ---- */
+
+/* A chain on a sheet whose horizon is that of the ledger. */
+struct budget_case {
+    make_sheet *make;
+    const char *name;
+    struct chain chain;
+    uint64_t general;
+    struct ledger ledger;
+};
+
+extern const struct budget_case budget_cases[];
+extern const size_t budget_case_count;
+
+/* Makes the sheet and the plan of a case. */
+struct bytes put_budget_case(const struct budget_case *of, uint8_t *sheet,
+                             uint8_t *plan);
+
+/* An accepted answer: the total is what the units add up to. */
+uint64_t answer_of(const struct ledger *ledger);
 
 #endif

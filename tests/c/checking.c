@@ -25,6 +25,7 @@ static void expect(const uint8_t *sheet, size_t length, unsigned number,
     expect_costing(input.sheet, answer);
     expect_pricing(input.sheet, answer);
     expect_planning(input.sheet, answer);
+    expect_budgeting(input.sheet, answer);
 }
 
 /* The number that is expected after one field of a good sheet got a value. */

@@ -3,7 +3,8 @@
  * an unreadable page begins, once beginning where an unreadable page ends. Its
  * own pages are read-only during the call. A read outside it or a write
  * anywhere near it is then a memory fault, which is reported under the name of
- * the case. lending.c says how the buffers are watched that are written.
+ * the case. lending.c and ledgers.c say how the buffers are watched that are
+ * written.
  *
  * Every call runs on a stack that was filled with one byte value. The lowest
  * byte that changed tells how much stack the call used.
@@ -97,6 +98,21 @@ struct room make_open_room(size_t least)
 
     allow(room, PROT_READ | PROT_WRITE);
     return room;
+}
+
+static unsigned char next_noise(void)
+{
+    static uint64_t noise = 1;
+
+    noise = noise * UINT64_C(6364136223846793005) + 1442695040888963407u;
+    return (unsigned char)(noise >> 56);
+}
+
+void fill_with_noise(struct room room, unsigned char *copy)
+{
+    for (size_t at = 0; at < room.bytes; at++)
+        room.begin[at] = next_noise();
+    memcpy(copy, room.begin, room.bytes);
 }
 
 /* ---- a call on a painted stack ---- */

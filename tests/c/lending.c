@@ -44,23 +44,6 @@ void start_lending(void)
                 "size of the words room");
 }
 
-/* ---- noise ---- */
-
-static uint64_t noise = 1;
-
-static unsigned char next_noise(void)
-{
-    noise = noise * UINT64_C(6364136223846793005) + 1442695040888963407u;
-    return (unsigned char)(noise >> 56);
-}
-
-static void fill(struct room room, unsigned char *after)
-{
-    for (size_t at = 0; at < room.bytes; at++)
-        room.begin[at] = next_noise();
-    memcpy(after, room.begin, room.bytes);
-}
-
 /* ---- one call ---- */
 
 /* Distances from the beginning of the rooms, in bytes. */
@@ -73,8 +56,8 @@ static void lend(struct lent lent, struct place place)
     stop_unless(place.plan + lent.plan_length <= plan_room.bytes &&
                     place.words + 8 * lent.words_count <= words_room.bytes,
                 "lending");
-    fill(plan_room, plan_after);
-    fill(words_room, words_after);
+    fill_with_noise(plan_room, plan_after);
+    fill_with_noise(words_room, words_after);
     now.plan = plan_room.begin + place.plan;
     now.plan_length = lent.plan_length;
     now.words = (uint64_t *)(void *)(words_room.begin + place.words);

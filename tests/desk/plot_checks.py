@@ -1,13 +1,10 @@
 """Checks of tools/plot."""
 
 import re
-import struct
-from typing import NamedTuple
 from xml.etree import ElementTree
 
 from . import sheets
-
-SVG = '{http://www.w3.org/2000/svg}'
+from .pictures import SVG, bars, drawn, laid_out, plan_bytes, plan_lines, texts
 
 # The paper's case study: its plan, and of each replacement the cost in units and the euros of the paper's Table 5.
 PAPER_ENDS = [0, 0, 60, 120, 180, 240, 300]
@@ -44,51 +41,23 @@ def run(bench):
 
 def steps_and_arcs(bench):
     """Document 01's cases 1 to 8, rounded up as document 02 asks, and steps with small rests."""
-    from nimovalsa.cost import arc_cost, in_service_step, plain_step
+    from nimovalsa.money import PresentValue
+    from nimovalsa.payments import arc_cost
     from nimovalsa.sheet import decode
-    bench.equal(plain_step(10_000, 0, 40_000), 9_616, 'case 1')
-    bench.equal(plain_step(9_616, 0, 40_000), 9_247, 'case 2')
-    bench.equal(plain_step(5, -100_000, 0), 5, 'case 3')
-    bench.equal(in_service_step(10_000, 0, 20_000, 40_000), 9_808, 'case 4')
-    bench.equal(in_service_step(10_000, 10_000, 20_000, 40_000), 9_906, 'case 5')
-    bench.equal(in_service_step(10_001, 0, 20_000, 40_000), 9_810, 'an ageing to 10,201.02')
-    bench.equal(plain_step(3, -100_000, 200_000), 3, 'a plain step to 2.25')
-    bench.equal(plain_step(4, -100_000, 200_000), 3, 'a plain step without a rest')
+    at_4 = PresentValue(40_000)
+    bench.equal(at_4.plain(10_000, 0), 9_616, 'case 1')
+    bench.equal(at_4.plain(9_616, 0), 9_247, 'case 2')
+    bench.equal(PresentValue(0).plain(5, -100_000), 5, 'case 3')
+    bench.equal(at_4.in_service(10_000, 0, 20_000), 9_808, 'case 4')
+    bench.equal(at_4.in_service(10_000, 10_000, 20_000), 9_906, 'case 5')
+    bench.equal(at_4.in_service(10_001, 0, 20_000), 9_810, 'an ageing to 10,201.02')
+    bench.equal(PresentValue(200_000).plain(3, -100_000), 3, 'a plain step to 2.25')
+    bench.equal(PresentValue(200_000).plain(4, -100_000), 3, 'a plain step without a rest')
     plain = decode(sheets.only_replace(3, 40_000, 1, 2, 1, 1)).records[2]
     overhauled = decode(sheets.only_replace(3, 40_000, 1, 2, 1, 1, overhauls=[(1, 1)])).records[2]
     bench.equal(arc_cost(plain, 40_000, 1, 3), 27_755, 'case 6')
     bench.equal(arc_cost(overhauled, 40_000, 1, 3), 37_002, 'case 7')
     bench.equal(arc_cost(overhauled, 40_000, 1, 2), 18_863, 'case 8')
-
-
-def plan_lines(total, ends):
-    names = ['maintain', 'renovate'] + ['replace'] * (len(ends) - 2)
-    activities = zip(names, [0, *ends], ends)
-    return f'total {total}\n' + ''.join(f'{name} {start} {end}\n' for name, start, end in activities)
-
-
-def plan_bytes(total, ends):
-    i, j, *others = ends
-    return b'RCP' + struct.pack(f'<HQHHH{len(others)}H', 1, total, i, j, len(others), *others)
-
-
-def drawn(bench, sheet, total, ends):
-    """The drawing of a plan, which its bytes and its lines give alike."""
-    bench.put('plan', plan_bytes(total, ends))
-    bench.succeeds('plot', sheet, 'plan', 'out.svg')
-    svg = bench.get('out.svg')
-    from_lines = bench.succeeds('plot', sheet, '-', '-', data=plan_lines(total, ends).encode())
-    bench.equal(from_lines, svg, 'the drawing from lines and that from bytes')
-    return ElementTree.fromstring(svg)
-
-
-def texts(picture):
-    return [text.text for text in picture.iter(f'{SVG}text')]
-
-
-def bars(picture):
-    """What the bars tell, in their order."""
-    return [bar.find(f'{SVG}title').text for bar in picture.iter(f'{SVG}rect') if bar.find(f'{SVG}title') is not None]
 
 
 def the_paper(bench):
@@ -114,7 +83,7 @@ def the_paper(bench):
 
 def table_5(bench):
     """Each replacement of the paper's case study costs less than a euro more or less than in the paper."""
-    from nimovalsa.cost import arc_cost
+    from nimovalsa.payments import arc_cost
     from nimovalsa.sheet import decode
     sheet = decode(sheets.PAPER)
     for start, (units, euros) in zip(range(0, 300, 60), PAPER_ARCS):
@@ -140,7 +109,7 @@ def small_plans(bench):
 
 
 def many_layouts(bench):
-    """Texts do not overlap, stay on the paper and can be read on what is behind them."""
+    """Chains and horizons of all lengths, with both charts of the budget."""
     yearly = list(range(1, 301))
     picture = drawn(bench, 'all', 300 * 110_000, [0, 0, *yearly])
     bench.holds({'279 replacements', '21\u2013300', '3,069', '3,300'} <= set(texts(picture)),
@@ -150,78 +119,16 @@ def many_layouts(bench):
                  [3, 3, 5, 100, 200, 300], [90, 90, 210, 299, 300]):
         lengths = [end - start for start, end in zip([0, *ends], ends)]
         total = sum(10_000 * (10 + length) for length in lengths if length)
-        laid_out(bench, drawn(bench, 'all', total, ends), f'ends {ends}')
+        laid_out(bench, drawn(bench, 'all', total, ends, '2%'), f'ends {ends}')
     for horizon in (1, 2, 7, 16, 17, 99, 119, 120):
         bench.put('short', sheets.put(ALL_OFFERED, sheets.HORIZON, 'H', horizon))
-        laid_out(bench, drawn(bench, 'short', 10_000 * (10 + horizon), [0, 0, horizon]), f'horizon {horizon}')
+        laid_out(bench, drawn(bench, 'short', 10_000 * (10 + horizon), [0, 0, horizon], '2%'), f'horizon {horizon}')
     renovated = [118, 120]
     bench.put('short', sheets.put(ALL_OFFERED, sheets.HORIZON, 'H', 120))
-    laid_out(bench, drawn(bench, 'short', 10_000 * 140, renovated), f'ends {renovated}')
+    laid_out(bench, drawn(bench, 'short', 10_000 * 140, renovated, '0%'), f'ends {renovated}')
     largest = sheets.head(300, 0) + 3 * sheets.record(1, 120, 10**9, 10**9)
     bench.put('largest', largest)
-    laid_out(bench, drawn(bench, 'largest', 600 * 10**13, [0, 0, *yearly]), 'the largest amounts')
-
-
-def laid_out(bench, picture, what):
-    width, height = map(int, picture.get('viewBox').split()[2:])
-    rects = list(picture.iter(f'{SVG}rect'))
-    placed = []
-    for text in picture.iter(f'{SVG}text'):
-        box = box_of(text)
-        bench.holds(0 <= box.left and box.right <= width and 0 <= box.top and box.bottom <= height,
-                    f'{what}: {text.text} is not on the paper')
-        near = [other for other, its in placed if overlap(spaced(box), its)]
-        bench.holds(not near, f'{what}: {text.text} is too near to {near}')
-        placed.append((text.text, box))
-        behind = [rect for rect in rects if covers(rect, box)]
-        bench.holds(contrast(text.get('fill', picture.get('fill')), behind[-1].get('fill')) >= 4.5,
-                    f'{what}: {text.text} has little contrast')
-
-
-class Box(NamedTuple):
-    left: float
-    top: float
-    right: float
-    bottom: float
-
-
-def box_of(text):
-    """About where a text stands; a digit of a common sans-serif font is 0.64 of its size wide, a bold one 0.7."""
-    size = float(text.get('font-size', 13))
-    width = len(text.text) * size * (0.7 if text.get('font-weight') == 'bold' else 0.64)
-    x, y = float(text.get('x')), float(text.get('y'))
-    left = x - width * {'start': 0, 'middle': 0.5, 'end': 1}[text.get('text-anchor', 'start')]
-    return Box(left, y - 0.75 * size, left + width, y + 0.25 * size)
-
-
-def overlap(one, other):
-    return (one.left < other.right and other.left < one.right
-            and one.top < other.bottom and other.top < one.bottom)
-
-
-def spaced(box):
-    """A text with the room that it wants at its sides."""
-    return box._replace(left=box.left - 3, right=box.right + 3)
-
-
-def covers(rect, box):
-    """Whether a rectangle is behind a text, be it in part."""
-    if rect.get('width') == '100%':
-        return True
-    left, top, width, height = (float(rect.get(name)) for name in ('x', 'y', 'width', 'height'))
-    return overlap(Box(left, top, left + width, top + height), box)
-
-
-def contrast(ink, paper):
-    """The ratio of luminances of two colours, as the guidelines for web pages define it."""
-    lighter, darker = sorted((luminance(ink), luminance(paper)), reverse=True)
-    return (lighter + 0.05) / (darker + 0.05)
-
-
-def luminance(colour):
-    parts = [int(colour[at:at + 2], 16) / 255 for at in (1, 3, 5)]
-    linear = [part / 12.92 if part <= 0.03928 else ((part + 0.055) / 1.055) ** 2.4 for part in parts]
-    return sum(share * part for share, part in zip((0.2126, 0.7152, 0.0722), linear))
+    laid_out(bench, drawn(bench, 'largest', 600 * 10**13, [0, 0, *yearly], '5%'), 'the largest amounts')
 
 
 def refuse(bench, sheet, plan, says):
@@ -308,8 +215,9 @@ def files_and_use(bench):
     run = bench.program('plot', '-', 'plan', 'kept.svg', data=CASE_12)
     bench.equal((run.status, run.out, run.err), (0, b'', ''), 'tools/plot as a program')
     bench.equal(bench.get('kept.svg'), bench.succeeds('plot', 'case12', 'plan', '-'), 'a file and standard output')
-    for arguments in ([], ['case12'], ['case12', 'plan'], ['case12', 'plan', 'a.svg', 'b.svg'], ['-', '-', 'a.svg'],
-                      ['case12', 'plan', '--out'], ['case12', 'plan', ''], ['--help', 'plan', 'a.svg'], ['-h']):
+    for arguments in ([], ['case12'], ['case12', 'plan'], ['case12', 'plan', 'a.svg', '2', '%'], ['-', '-', 'a.svg'],
+                      ['-', '-', 'a.svg', '2%'], ['case12', 'plan', '--out'], ['case12', 'plan', ''],
+                      ['--help', 'plan', 'a.svg'], ['--help', '2%'], ['-h']):
         bench.fails('tools/plot: use: ', 'plot', *arguments, status=2)
     bench.fails('plan: is given twice', 'plot', 'case12', 'plan', 'plan', status=2)
     bench.fails('case12: is given twice', 'plot', 'case12', 'plan', 'case12', status=2)

@@ -1,1 +1,1 @@
-"""What tools/sheet and tools/plot share: sheets, plans, what an arc costs, and the drawing."""
+"""What tools/sheet and tools/plot share: sheets, plans, what an arc pays, budgets, and the drawing."""

@@ -2,7 +2,7 @@
 -- total. Over any earlier answer. In order:
 --     call-refused, call-stopped, call-passed      the three ways in which it ends
 --     call-iff, call-accepted      when it accepts, and what it then answers
---     call-number-le, call-packs      the range of its answer
+--     call-option, call-total, call-number-le, call-packs      the option, the total with a refusal, and the range of its answer
 -- Assumes nothing.
 use Prim.Native.Nat.{ℕ, _≤_, _<_}
 use mathlib.Core.Path.{_≡_, refl, sym, _∙_}
@@ -10,7 +10,7 @@ use mathlib.Core.Bool.{Bool, true, false, cond, false≢true}
 use mathlib.Core.Logic.{_↔_}
 use native.Mathlib.Omega.{arith}
 use lib.Dec.{eqb}
-use borrow.Author.Tests.{eqb-true}
+use borrow.Author.Tests.{eqb-true, eqb-false}
 use Rattle.base.specs.Answer.{accepted, refused, _orElse_, totalBound, Packs}
 use Rattle.base.specs.declared.Answer.{Answer}
 use Rattle.base.proofs.TestLaws.{by-test}
@@ -30,6 +30,14 @@ own-iff false number total some = (λ e. absurd (omega arith), λ e. absurd (fal
 own-number-le : (rule : Bool) (number total most : ℕ) → number ≤ most → own rule number total .number ≤ most
 own-number-le true number total most h = omega arith
 own-number-le false number total most h = h
+
+own-option : (rule : Bool) (number total : ℕ) → own rule number total .option ≡ 3
+own-option true number total = refl
+own-option false number total = refl
+
+own-total : (rule : Bool) (number total : ℕ) → (own rule number total .number ≡ 0 → ⊥) → own rule number total .total ≡ 0
+own-total true number total d = absurd (d refl)
+own-total false number total d = refl
 
 own-packs : (rule : Bool) (number total : ℕ) → number < 64 → (rule ≡ true → total < totalBound) → Packs (own rule number total)
 own-packs true number total small h = accepted-packs total (h refl)
@@ -62,6 +70,17 @@ module _ (first : Answer) (rule : Bool) (number total : ℕ) where
   call-accepted some e =
       let h = orElse-iff first (own rule number total) .0 e in
       sym (call-passed (h .0) (own-iff rule number total some .0 (h .1)))
+
+  -- its own answers have option 3, and with every refusal the total is 0 if that holds of the earlier one
+  pub call-option : first .number ≡ 0 → call first rule number total .option ≡ 3
+  call-option passed = rw (orElse-pass first (own rule number total) passed) (own-option rule number total)
+
+  pub call-total :
+      ((first .number ≡ 0 → ⊥) → first .total ≡ 0) → (call first rule number total .number ≡ 0 → ⊥) → call first rule number total .total ≡ 0
+  call-total h d =
+      by-test (eqb (first .number) 0)
+      (λ t. let own-d = rw t at d in rw t (own-total rule number total own-d))
+      (λ t. rw t (h (eqb-false (first .number) 0 t)))
 
   pub call-number-le : (most : ℕ) → first .number ≤ most → number ≤ most → call first rule number total .number ≤ most
   call-number-le most h l =

@@ -3,14 +3,14 @@
 --     every-mapped      what holds of each member's image holds of every member of the list of images
 --     every-append      what holds of every member of two lists holds of every member of both together
 --     sumOf-append, sumOf-cons, sumOf-one, sumOf-two      the sum over two lists together, over a member and the rest, over one and over two
---     getD-listed      what stands at an index of a list that is given by its index
+--     length-listed, getD-listed      a list that is given by its index: how long it is, and what stands at an index
 -- Assumes nothing.
 use Prim.Native.Nat.{ℕ, _+_, zero, suc, _<_}
-use mathlib.Core.Path.{_≡_, refl}
+use mathlib.Core.Path.{_≡_, refl, ap}
 use mathlib.Core.List.{List, [], _∷_, _++_, map}
 use native.Mathlib.Nat.{add-zero, le-of-suc-le-suc, not-suc-le-zero}
 use native.Mathlib.Omega.{arith}
-use lib.ListN.{getD}
+use lib.ListN.{length, getD}
 use Rattle.base.specs.Lists.{Every, sumOf, listed}
 
 pub every-map : {A : Type 0} (S R : A → Type 0) → ((x : A) → S x → R x) → (xs : List A) → Every S xs → Every R xs
@@ -42,6 +42,10 @@ module _ {A : Type 0} (φ : A → ℕ) where
   pub sumOf-two : (x y : A) → sumOf φ (x ∷ y ∷ []) ≡ φ x + φ y
   unfolding sumOf
   sumOf-two x y = omega arith
+
+pub length-listed : {A : Type 0} (n : ℕ) (f : ℕ → A) → length (listed n f) ≡ n
+length-listed zero f = refl
+length-listed (suc n) f = ap suc (length-listed n (λ j. f (suc j)))
 
 pub getD-listed : {A : Type 0} (n : ℕ) (f : ℕ → A) (j : ℕ) (other : A) → j < n → getD (listed n f) j other ≡ f j
 getD-listed zero f j other h = absurd (not-suc-le-zero h)

@@ -4,17 +4,18 @@
 --     sets-set, sets-cons      a store before a run of stores can be made last
 --     sets-append      two runs, one behind the other, are one
 --     sets-other, sets-same      what is read outside of a run, and in it
---     written-first, written-behind      what was written to the front of a list is read there, and what stands behind it is kept
+--     written-first, written-behind, written-only      what was written to the front of a list is read there, what stands behind it is kept, and
+--         a list of which both hold is the one that was written
 -- Assumes nothing.
 use Prim.Native.Nat.{ℕ, _<_, suc, _+_, zero, _≤_, _-_}
-use mathlib.Core.Path.{_≡_, refl, _∙_}
+use mathlib.Core.Path.{_≡_, refl, sym, _∙_}
 use mathlib.Core.List.{List, [], _∷_, _++_, map}
 use native.Mathlib.Nat.{add-zero, zero-add}
 use native.Mathlib.Omega.{arith}
-use lib.Dec.{eqb}
-use lib.ListN.{length, getD, set, length-set, take, drop}
-use lib.Seq.{getD-set-same, getD-set-other, sets, set-comm, sets-eq, take-append-seam, getD-append-add, getD-drop}
-use borrow.Author.Tests.{eqb-true, eqb-false}
+use lib.Dec.{eqb, ltb}
+use lib.ListN.{length, getD, set, length-set, take, drop, List·getD-append}
+use lib.Seq.{getD-set-same, getD-set-other, sets, set-comm, sets-eq, length-sets, take-append-seam, getD-append-add, getD-drop, ext-getD}
+use borrow.Author.Tests.{eqb-true, eqb-false, ltb-true, ltb-false}
 use Rattle.base.proofs.TestLaws.{by-test}
 
 -- what is read after a store: the value at its place, and elsewhere what was there
@@ -77,8 +78,21 @@ module _ (plan bs : List ℕ) (room : length bs ≤ length plan) where
   pub written-first : take (length bs) (sets plan 0 bs) ≡ bs
   written-first = rw sets-front (take-append-seam bs (drop (length bs) plan))
 
+  written-same : (k : ℕ) → k < length bs → getD (sets plan 0 bs) k 0 ≡ getD bs k 0
+  written-same k early = rw sets-front (List·getD-append bs (drop (length bs) plan) 0 k early)
+
   pub written-behind : (k : ℕ) → length bs ≤ k → getD (sets plan 0 bs) k 0 ≡ getD plan k 0
   written-behind k behind =
       let n = length bs in
       let e : k ≡ n + (k - n) = omega arith in
       rw (sets-front, e) (getD-append-add bs (drop n plan) (k - n) 0 ∙ getD-drop n plan (k - n) 0)
+
+  -- a list with these values in front and the old ones behind is the list that was written
+  pub written-only :
+      (new : List ℕ) → length new ≡ length plan → ((k : ℕ) → k < length bs → getD new k 0 ≡ getD bs k 0)
+      → ((k : ℕ) → length bs ≤ k → getD new k 0 ≡ getD plan k 0) → new ≡ sets plan 0 bs
+  written-only new same front behind =
+      ext-getD 0 new (sets plan 0 bs) (same ∙ sym (length-sets plan 0 bs)) (λ k l.
+      by-test (ltb k (length bs))
+      (λ t. let early = ltb-true k (length bs) t in front k early ∙ sym (written-same k early))
+      (λ t. let late = ltb-false k (length bs) t in behind k late ∙ sym (written-behind k late)))

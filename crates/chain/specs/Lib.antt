@@ -4,7 +4,7 @@
 --     Years: chains as lists of years
 --     Error: how far a total may lie from the exact value
 --     PlanBytes: the bytes of a plan, written and read
---     Ordered: what pricing's code of a total asks
+--     Ordered: what the code asks that goes through the arcs of a chain
 --     CasePlans: the bytes of plans for the cases
 pub mod Chain
 pub mod ChosenChain

@@ -1,4 +1,5 @@
--- What pricing's code of a total asks: years in order, none past T. `FeasibleLaws.antt` shows it of every feasible chain. Definitions only.
+-- What the code asks that goes through the arcs of a chain, in pricing and in the budget: years in order, none past T. `FeasibleLaws.antt`
+-- shows it of every feasible chain. Definitions only.
 use Prim.Native.Nat.{ℕ, _≤_}
 use mathlib.Core.List.{List}
 use Rattle.base.specs.Lists.{Every}

@@ -78,7 +78,7 @@ module _ (horizon : ℕ) (k : Kept) (ok : KeptFits k) where
       )
 
 module _ (a : Arc) (ok : ArcFits a) where
-  payments-sound : Every (Sound (a .horizon) (a .kept .discount)) (payments a)
+  pub payments-sound : Every (Sound (a .horizon) (a .kept .discount)) (payments a)
   unfolding payments
   payments-sound = paid-sound (a .horizon) (a .kept) (ok .kept) (a .years) (ok .inside)
 

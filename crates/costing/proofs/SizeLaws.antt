@@ -20,7 +20,7 @@ use Rattle.costing.specs.Walk.{atAge, overhaulsAt, added, walked}
 use Rattle.costing.specs.declared.Kept.{Kept}
 use Rattle.costing.proofs.SumLaws as Sum
 
-inYear-le :
+pub inYear-le :
     (discount : ℕ) (w : Flow) (t k : ℕ) → 0 < discount → FlowFits discount w → rounded discount (inYear w t k) ≤ w .amount * 10_000 + k
 unfolding rounded inYear
 inYear-le discount w t k positive h =
@@ -41,11 +41,11 @@ inYear-fits discount w t k low high h few =
       product = h .product;
     }
 
-paidIf-le : (φ : Payment → ℕ) (holds : Bool) (p : Payment) → sumOf φ (paidIf holds p) ≤ φ p
+pub paidIf-le : (φ : Payment → ℕ) (holds : Bool) (p : Payment) → sumOf φ (paidIf holds p) ≤ φ p
 paidIf-le φ true p = rw (Sum.paidIf-true φ p) (omega arith)
 paidIf-le φ false p = rw (Sum.paidIf-false φ p) (omega arith)
 
-forEach-le :
+pub forEach-le :
     (φ : Payment → ℕ) (b n : ℕ) (f : ℕ → List Payment) → ((j : ℕ) → j < n → sumOf φ (f j) ≤ b) → sumOf φ (forEach n f) ≤ n * b
 forEach-le φ b zero f h = rw (Sum.forEach-zero φ f) (omega arith)
 forEach-le φ b (suc n) f h =
@@ -57,7 +57,7 @@ module _ (a : Kept) (h : KeptFits a) where
   positive : 0 < a .discount
   positive = omega arith
 
-  overhaul-le : (j : ℕ) → j < a .terms .overhauls .count → rounded (a .discount) (overhaul a j) ≤ largestPayment
+  pub overhaul-le : (j : ℕ) → j < a .terms .overhauls .count → rounded (a .discount) (overhaul a j) ≤ largestPayment
   unfolding overhaul
   overhaul-le j l =
       let o = a .terms .overhauls in

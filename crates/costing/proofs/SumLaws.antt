@@ -1,6 +1,6 @@
 -- Sums of a figure over payments, for every figure: an arc paid year by year pays the same (`walked-paid`). Assumes nothing.
 use Prim.Native.Nat.{ℕ, zero, suc, _+_, _<_}
-use mathlib.Core.Path.{_≡_, refl}
+use mathlib.Core.Path.{_≡_, refl, sym, _∙_}
 use mathlib.Core.List.{List, [], _∷_, _++_}
 use mathlib.Core.Bool.{true, false}
 use native.Mathlib.Nat.{add-zero}
@@ -78,7 +78,8 @@ module _ (φ : Payment → ℕ) where
       let first = sumOf-cons φ (investment a) in
       omega (arith, first (forEach (suc n) (added a)), first (forEach n (added a)), forEach-suc n (added a))
 
-  abbrev parts : Kept → ℕ → ℕ
+  -- the four parts of an arc
+  abbrev pub parts : Kept → ℕ → ℕ
   parts a n =
       φ (investment a) + sumOf φ (overhaulsBelow a n)
       + sumOf φ (forEach n (λ k. maintenance a (suc k) ∷ [])) + sumOf φ (forEach n (λ k. electricity a (suc k) ∷ []))
@@ -93,11 +94,14 @@ module _ (φ : Payment → ℕ) where
   unfolding paid sumOf
   paid-zero a = refl
 
-  -- an arc of a year or more
-  pub walked-paid : (a : Kept) (n : ℕ) → sumOf φ (paid a (suc n)) ≡ sumOf φ (walked a (suc n))
+  -- an arc of a year or more, part by part and year by year
+  pub paid-parts : (a : Kept) (n : ℕ) → sumOf φ (paid a (suc n)) ≡ parts a (suc n)
   unfolding paid
-  walked-paid a n =
+  paid-parts a n =
       let o = overhaulsBelow a (suc n) in
       let m = forEach (suc n) (λ k. maintenance a (suc k) ∷ []) in
       let e = forEach (suc n) (λ k. electricity a (suc k) ∷ []) in
-      rw (walked-parts, sumOf-cons φ, sumOf-append φ (o ++ m) e, sumOf-append φ o m) (omega arith)
+      rw (sumOf-cons φ, sumOf-append φ (o ++ m) e, sumOf-append φ o m) (omega arith)
+
+  pub walked-paid : (a : Kept) (n : ℕ) → sumOf φ (paid a (suc n)) ≡ sumOf φ (walked a (suc n))
+  walked-paid a n = paid-parts a n ∙ sym (walked-parts a (suc n))

@@ -21,11 +21,11 @@ use Rattle.costing.proofs.SizeLaws.{overhauls-le, walked-le}
 use Rattle.costing.proofs.SumLaws as Sum
 
 -- a flow's running amount at the start, and one year in service on
-inYear-zero : (discount : ℕ) (w : Flow) (t : ℕ) → rounded discount (once (w .amount) (w .grow) t) ≡ rounded discount (inYear w t 0)
+pub inYear-zero : (discount : ℕ) (w : Flow) (t : ℕ) → rounded discount (once (w .amount) (w .grow) t) ≡ rounded discount (inYear w t 0)
 unfolding rounded once inYear repeated
 inYear-zero discount w t = refl
 
-inYear-suc :
+pub inYear-suc :
     (discount : ℕ) (w : Flow) (t n : ℕ) {a m : ℕ}
     → a ≡ rounded discount (inYear w t n) → m ≡ inService (w .grow) (w .age) discount a → m ≡ rounded discount (inYear w t (suc n))
 unfolding rounded inYear repeated

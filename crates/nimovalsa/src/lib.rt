@@ -1,7 +1,7 @@
 // The C forms: each calls its Rattle form and packs the answer into one u64. A slice is a pointer and then a length.
 // The declarations for C are in include/nimovalsa.h.
 //
-// This page is all that is claimed of the four calls, for every input. The names below say where each definition stands. `now (x .entry)` is
+// This page is all that is claimed of the five calls, for every input. The names below say where each definition stands. `now (x .entry)` is
 // what a buffer holds before the call and `now (x .exit)` after it; `answerIn r` is the total, number and option in what is returned.
 
 ghost use mathlib.Core.Path.{_≡_};
@@ -20,6 +20,8 @@ ghost use Rattle.chain.specs.PlanBytes.{decode};
 ghost use Rattle.pricing.specs.Pricing.{priced, PricedAt};
 ghost use Rattle.planning.specs.Planning.{planAnswer, planAfter, wordsAfter};
 ghost use Rattle.planner.specs.Promises.{Promised};
+ghost use Rattle.budget.specs.Budget.{budgetAnswer, unitsAfter, centsAfter};
+ghost use Rattle.budget.specs.Promises.{PromisedBudget};
 ghost use Rattle.nimovalsa.specs.Packed.{answerIn, Returns};
 use base::Answer;
 
@@ -70,4 +72,22 @@ pub extern "C" fn nimovalsa_plan(sheet: &[u8], plan: &mut [u8], words: &mut [u64
     ensures promised { λ r. ⌜ Promised (now (sheet .entry)) (now (plan .entry)) (now (words .entry)) (answerIn r) (now (plan .exit)) (now (words .exit)) ⌝ }
 {
     pack(planner::plan(sheet, plan, words))
+}
+
+// The budget by year: the priced total of the plan in units, and the number and the option of the refusal table. What the chain pays in each
+// year is written, in units, and for the first years in cents of the year.
+#[no_mangle]
+pub extern "C" fn nimovalsa_budget(
+    sheet: &[u8],
+    plan: &[u8],
+    general: u64,
+    units: &mut [u64],
+    cents: &mut [u64],
+) -> u64
+    ensures answer { λ r. ⌜ Returns r (budgetAnswer (now (sheet .entry)) (now (plan .entry)) general (now (units .entry)) (now (cents .entry))) ⌝ }
+    ensures units { λ _. ⌜ now (units .exit) ≡ unitsAfter (now (sheet .entry)) (now (plan .entry)) general (now (units .entry)) (now (cents .entry)) ⌝ }
+    ensures cents { λ _. ⌜ now (cents .exit) ≡ centsAfter (now (sheet .entry)) (now (plan .entry)) general (now (units .entry)) (now (cents .entry)) ⌝ }
+    ensures promised { λ r. ⌜ PromisedBudget (now (sheet .entry)) (now (plan .entry)) general (now (units .entry)) (now (cents .entry)) (answerIn r) (now (units .exit)) (now (cents .exit)) ⌝ }
+{
+    pack(budget::budget(sheet, plan, general, units, cents))
 }

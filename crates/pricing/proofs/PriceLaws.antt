@@ -1,5 +1,6 @@
--- What `priced` answers: the ways in which `price` ends, when it accepts and at which total (`priced-iff`, `priced-encode`), how near that
--- total is to the exact value (`priced-near`), and the range of the answer (`priced-number-le`, `priced-packs`). Assumes nothing.
+-- What `priced` answers: the ways in which `price` ends, when it accepts and at which total (`accepted-iff`, `priced-iff`, `priced-encode`), how near
+-- that total is to the exact value (`priced-near`), and the range of the answer (`priced-option`, `priced-total`, `priced-number-le`,
+-- `priced-packs`). Assumes nothing.
 use Prim.Native.Nat.{ℕ, _≤_, _<_}
 use mathlib.Core.Path.{_≡_, refl, ap, sym, subst, _∙_}
 use mathlib.Core.List.{List}
@@ -9,12 +10,12 @@ use native.Mathlib.Omega.{arith}
 use lib.ListN.{length, getD}
 use Rattle.base.specs.Answer.{accepted, refused, Packs}
 use Rattle.base.specs.declared.Answer.{Answer}
-use Rattle.base.proofs.CallLaws.{call-refused, call-stopped, call-passed, call-iff, call-accepted, call-number-le, call-packs}
+use Rattle.base.proofs.CallLaws.{call-refused, call-stopped, call-passed, call-iff, call-accepted, call-option, call-total, call-number-le, call-packs}
 use Rattle.sheet.specs.Sheet.{sheetOf}
 use Rattle.checking.specs.Refusals.{checked}
 use Rattle.checking.specs.Passes.{Passes}
 use Rattle.checking.proofs.PassesLaws.{checked-iff}
-use Rattle.checking.proofs.RangeLaws.{checked-number-le, checked-packs}
+use Rattle.checking.proofs.RangeLaws.{checked-total, checked-number-le, checked-packs}
 use Rattle.checking.proofs.FitLaws.{fit}
 use Rattle.chain.specs.Chain.{Chain, Feasible, roundedTotal}
 use Rattle.chain.specs.Error.{TotalNear}
@@ -50,7 +51,7 @@ module _ (s plan : List ℕ) where
   price-fit = call-passed (checked s) rule 14 units
 
   -- accepted exactly when the sheet passes its checks and the plan has the shape and holds a feasible chain
-  accepted-iff : (priced s plan .number ≡ 0) ↔ (Passes s × (Shaped plan × Feasible (sheetOf s) (decode plan)))
+  pub accepted-iff : (priced s plan .number ≡ 0) ↔ (Passes s × (Shaped plan × Feasible (sheetOf s) (decode plan)))
   unfolding priced pricing
   accepted-iff = call-iff (checked s) rule 14 units (omega arith) (checked-iff s) (fitting-iff (sheetOf s) plan)
 
@@ -104,6 +105,15 @@ module _ (s plan : List ℕ) where
       × (((total : ℕ) → ((a .number ≡ 0) × (a .total ≡ total)) ↔ PricedAt s plan total)
       × (a .number ≡ 0 → TotalNear (sheetOf s) (decode plan) (a .total)))
   price-answers byte a e = (e, (rw e (priced-iff byte), rw e priced-near))
+
+  -- a sheet that passes gets option 3, and with every refusal the total is 0
+  pub priced-option : Passes s → priced s plan .option ≡ 3
+  unfolding priced pricing
+  priced-option h = call-option (checked s) rule 14 units (checked-iff s .1 h)
+
+  pub priced-total : (priced s plan .number ≡ 0 → ⊥) → priced s plan .total ≡ 0
+  unfolding priced pricing
+  priced-total = call-total (checked s) rule 14 units (λ d. checked-total s)
 
   pub priced-number-le : priced s plan .number ≤ 14
   unfolding priced pricing

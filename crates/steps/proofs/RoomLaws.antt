@@ -28,7 +28,7 @@ grown-of m a b f g r positive h k l =
 
 module _ (grow age discount : ℕ) (positive : 0 < discount) (grown : grow ≤ discount) (product : grow * age ≤ 1_000_000 * discount) where
   -- after ageing and growth the amount is at most one unit above where it was
-  aged-room : (a : ℕ) → divided (a * age) 1_000_000 * grow ≤ (a + 1) * discount
+  pub aged-room : (a : ℕ) → divided (a * age) 1_000_000 * grow ≤ (a + 1) * discount
   aged-room a =
       grown-of 1_000_000 a (divided (a * age) 1_000_000) grow age discount (omega arith)
       (divided-near (a * age) 1_000_000 (omega arith)) product grown

@@ -2,7 +2,7 @@
 -- factor in millionths: grow = 1,000,000 + f, age = 1,000,000 + g, discount = 1,000,000 + r. Definitions only.
 use Prim.Native.Nat.{ℕ, zero, suc, _+_, _-_, _*_, _/_}
 
--- n / d, rounded up to a whole unit
+-- n / d, rounded up to a whole number: of units here, of cents in `nominal`
 unfoldable pub divided : (n d : ℕ) → ℕ
 divided n d = (n + (d - 1)) / d
 

@@ -1,5 +1,6 @@
 // One year's step, and what a payment is worth: document 01, 'One year's step', rounded up. A rate is given by its factor in millionths; the
-// discount factor as a divisor. Nothing here is a public call: `Units` and `paid_once` serve the crates above, which meet what they require.
+// discount factor as a divisor. Nothing here is a public call: `Units`, `up` and `paid_once` serve the crates above, which meet what they
+// require.
 
 ghost use mathlib.Core.Path.{_≡_};
 ghost use Prim.Native.Nat.{_<_, _≤_, _*_};
@@ -12,8 +13,8 @@ use division::Divisor;
 // A present value in units: a currency unit is 10,000 of them.
 pub struct Units(pub u64);
 
-// n / d, rounded up to a whole unit.
-fn up(n: u64, d: u64) -> u64
+// n / d, rounded up to a whole number.
+pub fn up(n: u64, d: u64) -> u64
     requires { ⌜ (0 < d) × (d ≤ 1_300_000) × (n ≤ 15_000_000_000_000_000_000) ⌝ }
     ensures { λ r. ⌜ r ≡ divided n d ⌝ }
 {

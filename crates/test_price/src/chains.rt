@@ -1,8 +1,8 @@
 // Chains of the paper's case study.
 
-use crate::plan::plan;
 use crate::show::answer;
 use test_sheets::paper::sheet;
+use test_sheets::plans::plan;
 
 // Five replacements of 60 years, 1.56 euro above the 3,897,920 of Tables 5 and 6; and six of 50.
 fn replacing(s: &[u8]) {

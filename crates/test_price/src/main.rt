@@ -2,7 +2,6 @@
 // chain, less than two euros above the total of its Tables 5 and 6, and other chains of the same sheet; and each way into refusal 14, at its limit.
 
 mod chains;
-mod plan;
 mod refusals;
 mod show;
 

@@ -1,11 +1,11 @@
 // Each way into refusal 14 at its limit, on the paper's sheet, whose longest lives are 15, 30 and 60 years; and refusals 1 to 9, which come
 // first.
 
-use crate::plan::plan;
-use crate::plan::put16;
 use crate::show::answer;
 use test_sheets::REPLACE_AT;
 use test_sheets::paper::sheet;
+use test_sheets::plans::plan;
+use test_sheets::plans::put16;
 
 fn lengths(s: &[u8]) {
     let p = plan(0, 0, 5, [60, 120, 180, 240, 300, 0]);

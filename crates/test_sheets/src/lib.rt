@@ -1,9 +1,10 @@
-// For the test programs: sheets made by setting fields, and the lines that are printed.
+// For the test programs: sheets and plans made by setting fields, and the lines that are printed.
 
 ghost use Prim.Native.Nat.{_+_, _≤_};
 
 pub mod document;
 pub mod paper;
+pub mod plans;
 pub mod show;
 
 // Where the record of each option starts.

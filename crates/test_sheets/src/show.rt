@@ -1,4 +1,4 @@
-// The lines that the programs print: a number, and the end of a line, which has an answer.
+// What the programs print: a number; an answer, within a line or at its end.
 
 use base::Answer;
 
@@ -10,7 +10,7 @@ pub fn number(n: u64) {
 }
 
 // The total in units, or `refused` with the number and the option.
-pub fn answered(a: Answer) {
+pub fn answer(a: Answer) {
     if a.number == 0 {
         io::write_all(OUT, b": units");
         number(a.total);
@@ -19,5 +19,10 @@ pub fn answered(a: Answer) {
         number(a.number as u64);
         number(a.option as u64);
     }
+}
+
+// The same, and the line ends.
+pub fn answered(a: Answer) {
+    answer(a);
     io::write_all(OUT, b"\n");
 }

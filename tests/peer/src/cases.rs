@@ -1,4 +1,4 @@
-//! The sheets of document 01's plan cases, and that of the paper's case study.
+//! The sheets of document 01's plan cases, that of the paper's case study, and two for budgets.
 
 use crate::sheet::*;
 
@@ -92,5 +92,36 @@ pub fn paper_sheet() -> Vec<u8> {
             set(&mut sheet, option, &[age, amount]);
         }
     }
+    sheet
+}
+
+/// Only replace is offered, for one year; of its three payments one is 0.
+pub fn two_year_sheet() -> Vec<u8> {
+    let mut sheet = with_head(2, 40_000);
+    let fields = [
+        (SHORTEST, 1),
+        (LONGEST, 1),
+        (INVESTMENT, 1),
+        (INVESTMENT_INFLATION, 10_000),
+        (MAINTENANCE, 7),
+        (MAINTENANCE_INFLATION, 10_000),
+        (MAINTENANCE_AGEING, 7_000),
+    ];
+    set(&mut sheet, 2, &fields);
+    sheet
+}
+
+/// Only replace is offered, for up to 15 years. Its one payment is 10^9 and grows by its ageing as
+/// fast as the discount.
+pub fn fifteen_year_sheet() -> Vec<u8> {
+    let mut sheet = with_head(15, 200_000);
+    let fields = [
+        (SHORTEST, 1),
+        (LONGEST, 15),
+        (MAINTENANCE, 1_000_000_000),
+        (MAINTENANCE_INFLATION, -40_000),
+        (MAINTENANCE_AGEING, 250_000),
+    ];
+    set(&mut sheet, 2, &fields);
     sheet
 }

@@ -8,7 +8,7 @@ use crate::sheet::{Record, Sheet};
 use std::iter;
 
 const UNITS: u128 = 10_000;
-const MILLION: u128 = 1_000_000;
+pub const MILLION: u128 = 1_000_000;
 const MAINTAIN: u64 = 0;
 const REPLACE: u64 = 2;
 
@@ -97,16 +97,16 @@ pub fn arc_cost(sheet: &Sheet, arc: Arc) -> u64 {
 }
 
 /// An amount with its rates, and how many steps of each kind bring it from year 0 to its year.
-struct Payment {
-    amount: i64,
-    inflation: i64,
-    ageing: i64,
-    plain_steps: i64,
-    service_steps: i64,
+pub struct Payment {
+    pub amount: i64,
+    pub inflation: i64,
+    pub ageing: i64,
+    pub plain_steps: i64,
+    pub service_steps: i64,
 }
 
 /// The payments of an arc of length 1 or more.
-fn payments(record: &Record, start: i64, length: i64) -> impl Iterator<Item = Payment> + '_ {
+pub fn payments(record: &Record, start: i64, length: i64) -> impl Iterator<Item = Payment> + '_ {
     let investment = Payment {
         amount: record.investment,
         inflation: record.investment_inflation,
@@ -139,7 +139,7 @@ fn payments(record: &Record, start: i64, length: i64) -> impl Iterator<Item = Pa
 }
 
 impl Payment {
-    fn value(&self, rate: i64) -> u128 {
+    pub fn value(&self, rate: i64) -> u128 {
         let mut running = self.amount as u128 * UNITS;
         for _ in 0..self.plain_steps {
             running = plain(running, rate, self.inflation);
@@ -162,13 +162,13 @@ fn in_service(a: u128, r: i64, f: i64, g: i64) -> u128 {
     plain(up(a * factor(g), MILLION), r, f)
 }
 
-fn factor(rate: i64) -> u128 {
+pub fn factor(rate: i64) -> u128 {
     let factor = MILLION.checked_add_signed(rate.into());
     factor.expect("a checked rate is -100,000 or more")
 }
 
-/// The quotient rounded up to a whole unit: its whole part, and 1 more if a rest is left.
-fn up(dividend: u128, divisor: u128) -> u128 {
+/// The quotient rounded up to a whole number: its whole part, and 1 more if a rest is left.
+pub fn up(dividend: u128, divisor: u128) -> u128 {
     let whole = dividend / divisor;
     match dividend % divisor {
         0 => whole,

@@ -1,42 +1,12 @@
-//! The buffers that planning may write to. Each lies inside a larger one, and both are filled
-//! with noise, so that everything that a call writes can be seen.
+//! The buffers that planning may write to, amid noise.
 
 use crate::library;
+use crate::noisy::Noisy;
 use crate::planner::Tail;
 use crate::random::Random;
-use std::ops::Range;
 
 /// Where the second half of the words begins: year y has word y and word 301 + y.
 const FIRST_ENDS: usize = 301;
-/// There are up to this many bytes or words of noise on each side.
-const MOST_AROUND: usize = 40;
-
-#[derive(Clone, PartialEq)]
-struct Noisy<T> {
-    all: Vec<T>,
-    lent: Range<usize>,
-}
-
-impl<T: Copy + PartialEq> Noisy<T> {
-    fn new(random: &mut Random, count: usize, mut noise: impl FnMut(&mut Random) -> T) -> Self {
-        let [before, after] = [0; 2].map(|_| 1 + random.below(MOST_AROUND));
-        let all = (0..before + count + after).map(|_| noise(random)).collect();
-        Noisy {
-            all,
-            lent: before..before + count,
-        }
-    }
-
-    fn lent(&mut self) -> &mut [T] {
-        &mut self.all[self.lent.clone()]
-    }
-
-    /// The first place where the content differs, counted from the beginning of the buffer.
-    fn differs_at(&self, other: &Self) -> Option<isize> {
-        let at = self.all.iter().zip(&other.all).position(|(a, b)| a != b)?;
-        Some(at as isize - self.lent.start as isize)
-    }
-}
 
 #[derive(Clone)]
 pub struct Lent {
@@ -53,11 +23,11 @@ impl Lent {
     }
 
     pub fn plan_length(&self) -> usize {
-        self.plan.lent.len()
+        self.plan.count()
     }
 
     pub fn words_count(&self) -> usize {
-        self.words.lent.len()
+        self.words.count()
     }
 
     pub fn plan(&mut self) -> &mut [u8] {
@@ -83,15 +53,8 @@ impl Lent {
 
     /// Where these buffers are not as expected.
     pub fn difference(&self, expected: &Lent) -> Option<String> {
-        if let Some(at) = self.plan.differs_at(&expected.plan) {
-            return Some(format!("plan byte {at} differs"));
-        }
-        let at = self.words.differs_at(&expected.words)?;
-        let [given, expected] = [self, expected].map(|lent| {
-            let place = lent.words.lent.start as isize + at;
-            lent.words.all[place as usize]
-        });
-        Some(format!("word {at} is {given}, expected {expected}"))
+        let of_plan = self.plan.difference(&expected.plan, "plan byte");
+        of_plan.or_else(|| self.words.difference(&expected.words, "word"))
     }
 }
 
@@ -119,17 +82,13 @@ mod tests {
     }
 
     #[test]
-    fn every_change_is_seen() {
+    fn a_change_of_either_is_seen() {
         let lent = Lent::new(&mut Random(20), 5, 3);
-        for at in 0..lent.plan.all.len() {
-            let mut other = lent.clone();
-            other.plan.all[at] ^= 1;
-            assert!(other.difference(&lent).is_some());
-        }
-        for at in 0..lent.words.all.len() {
-            let mut other = lent.clone();
-            other.words.all[at] ^= 1 << 63;
-            assert!(other.difference(&lent).is_some());
-        }
+        let mut other = lent.clone();
+        other.plan()[4] ^= 1;
+        assert!(other.difference(&lent).is_some());
+        let mut other = lent.clone();
+        other.words.lent()[2] ^= 1;
+        assert!(other.difference(&lent).is_some());
     }
 }

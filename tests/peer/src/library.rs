@@ -21,6 +21,17 @@ extern "C" {
         words: *mut u64,
         words_count: usize,
     ) -> u64;
+    fn nimovalsa_budget(
+        sheet: *const u8,
+        sheet_length: usize,
+        plan: *const u8,
+        plan_length: usize,
+        general: u64,
+        units: *mut u64,
+        units_count: usize,
+        cents: *mut u64,
+        cents_count: usize,
+    ) -> u64;
 }
 
 pub fn check(sheet: &[u8]) -> u64 {
@@ -48,6 +59,29 @@ pub fn plan(sheet: &[u8], plan: &mut [u8], words: &mut [u64]) -> u64 {
             plan.len(),
             words.as_mut_ptr(),
             words.len(),
+        )
+    }
+}
+
+pub fn budget(
+    sheet: &[u8],
+    plan: &[u8],
+    general: u64,
+    units: &mut [u64],
+    cents: &mut [u64],
+) -> u64 {
+    // SAFETY: as above, but here units and cents are written, and plan is only read.
+    unsafe {
+        nimovalsa_budget(
+            sheet.as_ptr(),
+            sheet.len(),
+            plan.as_ptr(),
+            plan.len(),
+            general,
+            units.as_mut_ptr(),
+            units.len(),
+            cents.as_mut_ptr(),
+            cents.len(),
         )
     }
 }

@@ -1,5 +1,5 @@
-//! Compares nimovalsa_check, nimovalsa_cost, nimovalsa_price and nimovalsa_plan of
-//! libnimovalsa.a with independent implementations of them on many sheets, arcs, plans and
+//! Compares nimovalsa_check, nimovalsa_cost, nimovalsa_price, nimovalsa_plan and nimovalsa_budget
+//! of libnimovalsa.a with independent implementations of them on many sheets, arcs, plans and
 //! buffers, and the totals that are printed with the exact values of their chains.
 //!
 //! Use: peer [SEED [COUNT]]. Equal arguments give equal sheets, arcs, plans and buffers.
@@ -12,10 +12,14 @@
 mod answer;
 mod arc_costs;
 mod arcs;
+mod budget;
+mod budget_kinds;
+mod calls;
 mod cases;
 mod chains;
 mod check;
 mod compare;
+mod compare_budgets;
 mod compare_costs;
 mod compare_plans;
 mod compare_prices;
@@ -26,7 +30,9 @@ mod exact;
 mod lent;
 mod library;
 mod listing;
+mod lists;
 mod natural;
+mod noisy;
 mod parts;
 mod plan;
 mod planner;
@@ -35,11 +41,13 @@ mod price;
 mod quotients;
 mod random;
 mod report;
+mod rises;
 mod sheet;
 mod sheets;
 mod valid;
 
 use compare::compare_all;
+use compare_budgets::compare_budgets;
 use compare_costs::compare_costs;
 use compare_plans::compare_plans;
 use compare_prices::compare_prices;
@@ -82,6 +90,7 @@ fn perform(seed: u64, count: u64) -> Result<(), String> {
     println!("rust peer: {}", compare_costs(seed)?);
     println!("rust peer: {}", compare_prices(seed)?);
     println!("rust peer: {}", compare_plans(seed)?);
+    println!("rust peer: {}", compare_budgets(seed)?);
     Ok(())
 }
 

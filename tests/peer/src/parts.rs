@@ -10,7 +10,7 @@ pub enum Part {
     Empty { offered: bool },
 }
 
-#[derive(Clone, Copy, PartialEq, Eq, PartialOrd, Ord)]
+#[derive(Clone, Copy, PartialEq, Eq, PartialOrd, Ord, Debug)]
 pub struct Parts {
     maintain: Part,
     renovate: Part,

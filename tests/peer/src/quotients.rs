@@ -99,7 +99,7 @@ impl Factors {
 
 /// The greatest common divisor of two numbers, and how many times the first must be taken to leave
 /// it as the rest modulo the second.
-fn greatest_divisor(first: i64, second: i64) -> (i64, i64) {
+pub fn greatest_divisor(first: i64, second: i64) -> (i64, i64) {
     let (mut last, mut next) = ((first, 1), (second, 0));
     while next.0 != 0 {
         let whole = last.0 / next.0;

@@ -1,8 +1,9 @@
-//! Valid sheets whose arcs are costed, whose chains are priced, and on which chains are planned.
+//! Valid sheets whose arcs are costed, whose chains are priced and budgeted, and on which chains
+//! are planned.
 
 use crate::random::Random;
 use crate::sheet::*;
-use crate::valid::{shaped_sheet, valid_sheet, Shape};
+use crate::valid::{largest_partner, shaped_sheet, valid_sheet, Shape, FLOWS};
 
 /// A horizon of up to 40 years, with lives and ages up to about that many.
 pub fn small_sheet(random: &mut Random) -> Vec<u8> {
@@ -80,6 +81,25 @@ pub fn frequent_sheet(random: &mut Random) -> Vec<u8> {
     sheet
 }
 
+/// A small sheet with all amounts 10^9, which grow as fast as the checks allow.
+pub fn steep_sheet(random: &mut Random) -> Vec<u8> {
+    let mut sheet = [small_sheet, chained_sheet][random.below(2)](random);
+    let rate = random.near_an_end(190_000, 200_000);
+    write(&mut sheet, RATE, rate);
+    set_amounts(&mut sheet, || 1_000_000_000);
+    for option in 0..OPTIONS {
+        write(&mut sheet, of_option(option, INVESTMENT_INFLATION), rate);
+        write(&mut sheet, of_option(option, OVERHAUL_INFLATION), rate);
+        for [_, inflation, ageing] in FLOWS {
+            let grows = random.near_an_end(-100_000, rate);
+            let ages = largest_partner(rate, grows).min(300_000);
+            write(&mut sheet, of_option(option, inflation), grows);
+            write(&mut sheet, of_option(option, ageing), ages);
+        }
+    }
+    sheet
+}
+
 /// Every rate of an option.
 const RATES: [Field; 6] = [
     INVESTMENT_INFLATION,
@@ -154,7 +174,6 @@ fn share_payments(sheet: &mut [u8]) {
 mod tests {
     use super::*;
     use crate::check::check;
-    use crate::valid::{largest_partner, FLOWS};
     use std::collections::BTreeSet;
 
     #[test]
@@ -167,6 +186,7 @@ mod tests {
             long_sheet,
             corner_sheet,
             frequent_sheet,
+            steep_sheet,
         ];
         for make in all {
             for _ in 0..1_000 {

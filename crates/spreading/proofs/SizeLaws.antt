@@ -1,0 +1,194 @@
+-- Why 64 bits suffice for the words. In order:
+--     Small      a figure that is at most `largestPayment` of each payment of an arc
+--     flow-most, first-most, paid-most      how much of such a figure the parts of an arc add, and the whole of it: `yearly` a year
+--     room-after, room-opened, room-overhauled, room-maintained      words that leave room still do behind payments, and behind each part of an arc
+--     flow-units-le, units-small      units are such a figure
+--     flow-cents-zero, flow-cents-suc, flow-cents-le      a flow's running cents: at the start, one year in service on, and up to year 15
+--     once-money-le, flow-money-le, cents-small      money of the year up to year 15 is such a figure
+-- Assumes nothing.
+use Prim.Native.Nat.{ℕ, zero, suc, _+_, _*_, _≤_, _<_}
+use mathlib.Core.Path.{_≡_, refl, ap, _∙_}
+use mathlib.Core.List.{List, [], _∷_, _++_}
+use native.Mathlib.Nat.{le-trans}
+use native.Mathlib.Omega.{arith}
+use lib.Dec.{leb, ltb}
+use lib.ListN.{length}
+use borrow.Author.Tests.{leb-true, leb-false}
+use Rattle.base.specs.Lists.{sumOf}
+use Rattle.base.proofs.TestLaws.{by-test}
+use Rattle.base.proofs.ListsLaws.{sumOf-append, sumOf-one}
+use Rattle.sheet.specs.declared.Flow.{Flow}
+use Rattle.checking.specs.Fit.{FlowFits}
+use Rattle.steps.specs.Step.{repeated}
+use Rattle.steps.specs.Payment.{Payment, year, rounded, once}
+use Rattle.steps.specs.Fit.{largestPayment, Rates}
+use Rattle.steps.proofs.RoomLaws.{once-le}
+use Rattle.costing.specs.Arc.{inYear, investment, maintenance, electricity, ageOf, overhaul, forEach, overhaulsBelow, paid}
+use Rattle.costing.specs.Fit.{yearly, KeptFits}
+use Rattle.costing.specs.declared.Kept.{Kept}
+use Rattle.costing.proofs.SumLaws as Sum
+use Rattle.costing.proofs.SizeLaws.{inYear-le, paidIf-le, forEach-le, overhaul-le}
+use Rattle.nominal.specs.Nominal.{nominalInService, cents, lastNominal}
+use Rattle.nominal.specs.Fit.{largestCents}
+use Rattle.nominal.proofs.SizeLaws.{cents-le}
+use Rattle.spreading.specs.Raised.{Raised, flowPaid, inMoney}
+use Rattle.spreading.specs.Asks.{Below, beforeArc, Room, MoneyFits, OnceFits}
+use Rattle.spreading.specs.declared.Money.{Money}
+use Rattle.spreading.proofs.RaisedLaws.{flow-year, firstOverhauls, raised-both, below-raised, upTo-in, upTo-out}
+
+-- a figure is at most `largestPayment` of each payment of an arc of n years
+pub record Small (φ : Payment → ℕ) (a : Kept) (n : ℕ) : Type 0 where
+  pub invested : φ (investment a) ≤ largestPayment
+  pub overhauled : (j : ℕ) → j < a .terms .overhauls .count → φ (overhaul a j) ≤ largestPayment
+  pub maintained : (k : ℕ) → k < n → φ (maintenance a (suc k)) ≤ largestPayment
+  pub powered : (k : ℕ) → k < n → φ (electricity a (suc k)) ≤ largestPayment
+
+module _ (φ : Payment → ℕ) where
+  pub flow-most : (w : Flow) (t n : ℕ) → ((k : ℕ) → k < n → φ (inYear w t (suc k)) ≤ largestPayment) → sumOf φ (flowPaid w t n) ≤ n * largestPayment
+  flow-most w t n h = forEach-le φ largestPayment n _ (λ k l. rw (sumOf-one φ (inYear w t (suc k))) (h k l))
+
+  module _ (a : Kept) (ok : KeptFits a) (n : ℕ) (small : Small φ a n) where
+    pub first-most : (years j : ℕ) → j ≤ a .terms .overhauls .count → sumOf φ (firstOverhauls a years j) ≤ 8 * largestPayment
+    first-most years j few =
+        let count = ok .terms .overhauls .count in
+        let all =
+        forEach-le φ largestPayment j _
+        (λ i l. le-trans (paidIf-le φ (ltb (ageOf a i) years) (overhaul a i)) (small .overhauled i (omega arith))) in
+        omega (arith, all)
+
+    overhauls-most : (years : ℕ) → sumOf φ (overhaulsBelow a years) ≤ 8 * largestPayment
+    unfolding overhaulsBelow
+    overhauls-most years = first-most years (a .terms .overhauls .count) (omega arith)
+
+    maintained-most : sumOf φ (flowPaid (a .terms .maintenance) (a .from) n) ≤ n * largestPayment
+    maintained-most = flow-most (a .terms .maintenance) (a .from) n (λ k l. unfold maintenance in small .maintained k l)
+
+  -- a year of an arc adds at most `yearly`
+  pub paid-most : (a : Kept) → KeptFits a → (n : ℕ) → Small φ a n → sumOf φ (paid a n) ≤ n * yearly
+  unfolding maintenance electricity
+  paid-most a ok zero small = rw (Sum.paid-zero φ a) (omega arith)
+  paid-most a ok (suc n) small =
+      rw (Sum.paid-parts φ a n)
+      (omega (
+        arith,
+        small .invested,
+        overhauls-most a ok (suc n) small (suc n),
+        maintained-most a ok (suc n) small,
+        flow-most (a .terms .electricity) (a .from) (suc n) (small .powered),
+      ))
+
+  -- words that leave room still do behind payments that add no more than that
+  pub room-after :
+      (last b m limit : ℕ) (old new : List ℕ) (qs : List Payment) → last < length old → length new ≡ length old → Below last b old
+      → Raised φ old new qs → sumOf φ qs ≤ m → b + m ≤ limit → Room new last limit
+  room-after last b m limit old new qs long same low h most few =
+      record {
+        long = omega arith;
+        low = λ y early. le-trans (below-raised φ last b m old new qs low h most y early) few;
+      }
+
+-- words that are at most what the years before an arc can have cost leave room behind each of its parts
+module _ (φ : Payment → ℕ) (a : Kept) (ok : KeptFits a) (n : ℕ) (few : n ≤ 300) (small : Small φ a n) (last : ℕ) (old : List ℕ)
+    (long : last < length old) (low : Below last (a .from * yearly) old) where
+  parts-room : (m : ℕ) (new : List ℕ) (qs : List Payment) → m ≤ 400 → length new ≡ length old → Raised φ old new qs → sumOf φ qs ≤ m * largestPayment → Room new last beforeArc
+  parts-room m new qs some same h most =
+      let from = ok .from in
+      room-after φ last (a .from * yearly) (m * largestPayment) beforeArc old new qs long same low h most (omega arith)
+
+  pub room-opened : (one : List ℕ) → length one ≡ length old → Raised φ old one (investment a ∷ []) → Room one last beforeArc
+  room-opened one same h = parts-room 1 one (investment a ∷ []) (omega arith) same h (omega (arith, sumOf-one φ (investment a), small .invested))
+
+  module _ (one two : List ℕ) (h : Raised φ old one (investment a ∷ [])) (i : Raised φ one two (overhaulsBelow a n)) where
+    abbrev opened : List Payment
+    opened = (investment a ∷ []) ++ overhaulsBelow a n
+
+    opened-most : sumOf φ opened ≤ 9 * largestPayment
+    opened-most =
+        omega (arith, sumOf-append φ (investment a ∷ []) (overhaulsBelow a n), sumOf-one φ (investment a), small .invested, overhauls-most φ a ok n small n)
+
+    pub room-overhauled : length two ≡ length old → Room two last beforeArc
+    room-overhauled same = parts-room 9 two opened (omega arith) same (raised-both φ old one two _ _ h i) opened-most
+
+    pub room-maintained :
+        (three : List ℕ) → length three ≡ length old → Raised φ two three (flowPaid (a .terms .maintenance) (a .from) n) → Room three last beforeArc
+    room-maintained three same j =
+        let m = flowPaid (a .terms .maintenance) (a .from) n in
+        parts-room (9 + n) three (opened ++ m) (omega arith) same (raised-both φ old two three opened m (raised-both φ old one two _ _ h i) j)
+        (omega (arith, sumOf-append φ opened m, opened-most, maintained-most φ a ok n small))
+
+-- units
+pub flow-units-le :
+    (discount : ℕ) (w : Flow) (t k : ℕ) → 0 < discount → FlowFits discount w → k ≤ 300 → rounded discount (inYear w t k) ≤ largestPayment
+flow-units-le discount w t k positive fits few = omega (arith, inYear-le discount w t k positive fits, fits .amount)
+
+pub units-small : (a : Kept) → KeptFits a → (n : ℕ) → n ≤ 300 → Small (rounded (a .discount)) a n
+unfolding investment maintenance electricity
+units-small a ok n few =
+    let low = ok .low in
+    let i = a .terms .investment in
+    record {
+      invested = omega (arith, once-le (a .discount) (i .amount) (i .grow) (a .from) (omega arith) (ok .terms .investment .grow .high), ok .terms .investment .amount);
+      overhauled = overhaul-le a ok;
+      maintained = λ k l. flow-units-le (a .discount) (a .terms .maintenance) (a .from) (suc k) (omega arith) (ok .terms .maintenance) (omega arith);
+      powered = λ k l. flow-units-le (a .discount) (a .terms .electricity) (a .from) (suc k) (omega arith) (ok .terms .electricity) (omega arith);
+    }
+
+-- the factors of a payment, and a flow's running cents: at the start, one year in service on, and up to year 15
+once-rates : (amount grow y : ℕ) → grow ≤ 1_200_000 → Rates 1_200_000 (once amount grow y)
+unfolding once
+once-rates amount grow y l = record { positive = omega arith; grown = l; product = omega arith }
+
+flow-rates : (discount : ℕ) (w : Flow) (t k : ℕ) → 0 < discount → FlowFits discount w → Rates discount (inYear w t k)
+unfolding inYear
+flow-rates discount w t k positive fits = record { positive = positive; grown = fits .grow .high; product = fits .product }
+
+pub flow-cents-zero : (general : ℕ) (w : Flow) (t : ℕ) → cents general (once (w .amount) (w .grow) t) ≡ cents general (inYear w t 0)
+unfolding cents once inYear repeated
+flow-cents-zero general w t = refl
+
+pub flow-cents-suc :
+    (general : ℕ) (w : Flow) (t n : ℕ) {a m : ℕ}
+    → a ≡ cents general (inYear w t n) → m ≡ nominalInService general (w .grow) (w .age) a → m ≡ cents general (inYear w t (suc n))
+unfolding cents inYear repeated
+flow-cents-suc general w t n now step = step ∙ ap (nominalInService general (w .grow) (w .age)) now
+
+pub flow-cents-le :
+    (general discount : ℕ) (w : Flow) (t k : ℕ) → general ≤ 1_050_000 → 0 < discount → discount ≤ 1_200_000 → FlowFits discount w
+    → t + k ≤ lastNominal → cents general (inYear w t k) ≤ largestCents
+flow-cents-le general discount w t k inflation positive high fits by =
+    cents-le general discount (inYear w t k) inflation high (flow-rates discount w t k positive fits) (unfold inYear in fits .amount)
+    (omega (arith, flow-year w t k))
+
+-- money of the year
+module _ (m : Money) (h : MoneyFits m) where
+  money-le : (discount : ℕ) (q : Payment) → discount ≤ 1_200_000 → Rates discount q → q .amount ≤ 1_000_000_000 → inMoney m q ≤ largestPayment
+  money-le discount q low rates amount =
+      by-test (leb (year q) (m .last))
+      (λ t.
+      let by = leb-true (year q) (m .last) t in
+      let early = h .early in
+      rw (upTo-in (m .last) (cents (m .general)) q by)
+      (omega (arith, cents-le (m .general) discount q (h .inflation) low rates amount (omega arith))))
+      (λ t. rw (upTo-out (m .last) (cents (m .general)) q (leb-false (year q) (m .last) t)) (omega arith))
+
+  pub once-money-le : (amount grow y : ℕ) → OnceFits amount grow → inMoney m (once amount grow y) ≤ largestPayment
+  once-money-le amount grow y fits =
+      money-le 1_200_000 (once amount grow y) (omega arith) (once-rates amount grow y (fits .grown)) (unfold once in fits .small)
+
+  pub flow-money-le :
+      (discount : ℕ) (w : Flow) (t k : ℕ) → 0 < discount → discount ≤ 1_200_000 → FlowFits discount w → inMoney m (inYear w t k) ≤ largestPayment
+  flow-money-le discount w t k positive low fits =
+      money-le discount (inYear w t k) low (flow-rates discount w t k positive fits) (unfold inYear in fits .amount)
+
+  pub cents-small : (a : Kept) → KeptFits a → (n : ℕ) → Small (inMoney m) a n
+  unfolding investment overhaul maintenance electricity ageOf
+  cents-small a ok n =
+      let t = ok .terms in
+      let low = ok .low in
+      let high = ok .high in
+      record {
+        invested = once-money-le _ _ _ (record { small = t .investment .amount; grown = omega (arith, t .investment .grow .high) });
+        overhauled = λ j l. once-money-le _ _ _ (record { small = t .overhauls .amount j l; grown = omega (arith, t .overhauls .grow .high) });
+        maintained = λ k l. flow-money-le (a .discount) (a .terms .maintenance) (a .from) (suc k) (omega arith) high (t .maintenance);
+        powered = λ k l. flow-money-le (a .discount) (a .terms .electricity) (a .from) (suc k) (omega arith) high (t .electricity);
+      }

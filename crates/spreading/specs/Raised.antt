@@ -1,0 +1,33 @@
+-- Words to which was added what falls in their years, as the code does it. Definitions only.
+use Prim.Native.Nat.{ℕ, suc, _+_}
+use mathlib.Core.Path.{_≡_}
+use mathlib.Core.List.{List, [], _∷_}
+use mathlib.Core.Bool.{cond}
+use lib.Dec.{leb}
+use lib.ListN.{getD}
+use Rattle.sheet.specs.declared.Flow.{Flow}
+use Rattle.steps.specs.Payment.{Payment, year}
+use Rattle.costing.specs.Arc.{inYear, forEach}
+use Rattle.nominal.specs.Nominal.{cents}
+use Rattle.spreading.specs.Fallen.{inOnly, fallen}
+use Rattle.spreading.specs.declared.Money.{Money}
+
+-- a figure was added to the word of one year
+abbrev pub RaisedIn : (old new : List ℕ) (at figure : ℕ) → Type 0
+RaisedIn old new at figure = (y : ℕ) → getD new y 0 ≡ getD old y 0 + inOnly at figure y
+
+-- to the word of every year was added what of the payments falls in it
+abbrev pub Raised : (φ : Payment → ℕ) (old new : List ℕ) → List Payment → Type 0
+Raised φ old new qs = (y : ℕ) → getD new y 0 ≡ getD old y 0 + fallen φ y qs
+
+-- a figure of the payments that fall in the years 0 to last, and 0 of later ones
+unfoldable pub upTo : (last : ℕ) → (Payment → ℕ) → Payment → ℕ
+upTo last φ q = cond (leb (year q) last) (φ q) 0
+
+-- money of the year, as the code counts it
+abbrev pub inMoney : Money → Payment → ℕ
+inMoney m = upTo (m .last) (cents (m .general))
+
+-- what a flow pays in its first n years of service, which began in year t
+abbrev pub flowPaid : Flow → (t n : ℕ) → List Payment
+flowPaid w t n = forEach n (λ k. inYear w t (suc k) ∷ [])

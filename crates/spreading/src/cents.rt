@@ -1,0 +1,112 @@
+// Money of the year in cents, by year, up to a last year.
+
+ghost use mathlib.Core.List.{[], _∷_};
+ghost use Prim.Native.Nat.{_+_, _^_, _<_, _≤_};
+ghost use lib.Dec.{ltb};
+ghost use lib.ListN.{length, getD};
+ghost use Rattle.steps.specs.Payment.{once};
+ghost use Rattle.costing.specs.Arc.{paidIf, overhaulsBelow, paid};
+ghost use Rattle.costing.specs.Fit.{KeptFits};
+ghost use Rattle.spreading.specs.Raised.{RaisedIn, Raised, flowPaid, inMoney};
+ghost use Rattle.spreading.specs.Asks.{beforePayment, beforeArc, MoneyAsks, OnceFits, FlowPasses, MoneyArcAsks};
+use crate::Money;
+use base::order;
+use costing::Kept;
+use nominal::Cents;
+use nominal::paid_once;
+use sheet::Flow;
+
+// Adds an amount of a year to the word of the year.
+fn add(words: &mut [u64], year: u64, value: Cents)
+    requires { ⌜ (year < length (now words)) × (getD (now words) year 0 + value .0 < 2 ^ 64) ⌝ }
+    ensures { λ _. ⌜ RaisedIn (now (words .entry)) (now (words .exit)) year (value .0) ⌝ }
+{
+    let at = year as usize;
+    words[at] = words[at] + value.0;
+}
+
+// Adds an amount paid once, unless its year is behind the last.
+fn add_once(words: &mut [u64], money: Money, amount: u64, grow: u64, year: u64)
+    requires { ⌜ MoneyAsks (now words) money beforePayment × OnceFits amount grow ⌝ }
+    ensures { λ _. ⌜ Raised (inMoney money) (now (words .entry)) (now (words .exit)) (once amount grow year ∷ []) ⌝ }
+{
+    if money.last < year {
+        return;
+    }
+    add(words, year, paid_once(amount, grow, money.general, year));
+}
+
+// Adds an overhaul of an arc of that many years, if its age is less.
+fn add_overhaul(
+    words: &mut [u64],
+    money: Money,
+    age: u64,
+    amount: u64,
+    grow: u64,
+    from: u64,
+    years: u64,
+)
+    requires { ⌜ MoneyAsks (now words) money beforePayment × OnceFits amount grow × (from + years ≤ 600) ⌝ }
+    ensures { λ _. ⌜ Raised (inMoney money) (now (words .entry)) (now (words .exit)) (paidIf (ltb age years) (once amount grow (from + age))) ⌝ }
+{
+    if years <= age {
+        return;
+    }
+    add_once(words, money, amount, grow, from + age);
+}
+
+// Adds the overhauls of an arc.
+fn add_overhauls(words: &mut [u64], kept: Kept, money: Money, years: u64)
+    requires { ⌜ MoneyAsks (now words) money beforeArc × KeptFits kept × (years ≤ 300) ⌝ }
+    ensures { λ _. ⌜ Raised (inMoney money) (now (words .entry)) (now (words .exit)) (overhaulsBelow kept years) ⌝ }
+{
+    let terms = kept.terms;
+    let overhauls = terms.overhauls;
+    let ages = overhauls.ages;
+    let amounts = overhauls.amounts;
+    let count = overhauls.count as usize;
+    for j in 0..count {
+        add_overhaul(
+            words,
+            money,
+            ages[j],
+            amounts[j],
+            overhauls.grow,
+            kept.from,
+            years,
+        );
+    }
+}
+
+// Adds what a flow pays in its first years of service, which began in a year. The walk stops at the last year: behind year 15 the cents
+// would leave 64 bits.
+fn add_flow(words: &mut [u64], money: Money, flow: Flow, from: u64, years: u64)
+    requires { ⌜ MoneyAsks (now words) money beforeArc × FlowPasses flow ⌝ }
+    ensures { λ _. ⌜ Raised (inMoney money) (now (words .entry)) (now (words .exit)) (flowPaid flow from years) ⌝ }
+{
+    if money.last < from {
+        return;
+    }
+    let count = order::smaller(years, money.last - from);
+    let mut value = paid_once(flow.amount, flow.grow, money.general, from);
+    for n in 0..count {
+        value = value.in_service(money.general, flow.grow, flow.age);
+        add(words, from + n + 1, value);
+    }
+}
+
+// Adds what an arc of that many years pays.
+pub fn add_arc(words: &mut [u64], kept: Kept, money: Money, years: u64)
+    requires { ⌜ MoneyArcAsks (now words) kept money years ⌝ }
+    ensures { λ _. ⌜ Raised (inMoney money) (now (words .entry)) (now (words .exit)) (paid kept years) ⌝ }
+{
+    if years == 0 {
+        return;
+    }
+    let terms = kept.terms;
+    let investment = terms.investment;
+    add_once(words, money, investment.amount, investment.grow, kept.from);
+    add_overhauls(words, kept, money, years);
+    add_flow(words, money, terms.maintenance, kept.from, years);
+    add_flow(words, money, terms.electricity, kept.from, years);
+}

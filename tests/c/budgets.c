@@ -1,0 +1,442 @@
+/*
+ * nimovalsa_budget by what its lists hold: the payments of each year, in units
+ * and in cents, and that the units add up to the price.
+ */
+#include "boundary.h"
+
+#include <inttypes.h>
+
+static uint8_t sheet[NIMOVALSA_SHEET_BYTES];
+static uint8_t plan[LONGEST_LENT_PLAN];
+
+uint64_t answer_of(const struct ledger *ledger)
+{
+    uint64_t total = 0;
+
+    for (unsigned year = 0; year <= ledger->horizon; year++)
+        total += ledger->units[year];
+    return PRICED(total);
+}
+
+/* In lists that are just long enough, and in longer ones. */
+static void expect_ledger(struct bytes of_plan, uint64_t general,
+                          const struct ledger *ledger)
+{
+    struct input input = {{sheet, sizeof sheet}, of_plan};
+    struct asked asked = {input, general, units_needed(ledger->horizon),
+                          cents_needed(ledger->horizon)};
+
+    expect_answer(&pricing, input, answer_of(ledger));
+    expect_budget(asked, answer_of(ledger), ledger);
+    asked.units_count += 3;
+    asked.cents_count += 2;
+    expect_budget(asked, answer_of(ledger), ledger);
+}
+
+/* ---- cases ---- */
+
+/* Only replace is offered. */
+static void make_two_year_sheet(uint8_t *at)
+{
+    uint8_t *record = record_of(at, 2);
+
+    put_head(at, 2, 40000);
+    put_lives(record, 1, 1);
+    put32(record + INVESTMENT, 1);
+    put32(record + INVESTMENT_INFLATION, 10000);
+    put32(record + MAINTENANCE, 7);
+    put32(record + MAINTENANCE_INFLATION, 10000);
+    put32(record + MAINTENANCE_AGEING, 7000);
+}
+
+/* A payment of 10^9 that grows as fast as the discount, by its ageing. */
+static void make_steep_sheet(uint8_t *at)
+{
+    uint8_t *record = record_of(at, 2);
+
+    put_head(at, 15, 200000);
+    put_lives(record, 1, 15);
+    put32(record + MAINTENANCE, 1000000000);
+    put32(record + MAINTENANCE_INFLATION, -40000);
+    put32(record + MAINTENANCE_AGEING, 250000);
+}
+
+/* r 40,000, lives 1 to 20, for every T; no two payments have the same amount
+ * or the same rates. */
+static void make_rated_sheet(uint8_t *at)
+{
+    /* From the investment to the overhaul inflation. */
+    static const int64_t fields[OPTIONS][9] = {
+        {150, 10300, 70, 8500, 15000, 15, 2000, 3000, -12000},
+        {1125, -7000, 35, 9100, 10000, 17, -4000, 20000, 6000},
+        {2500, 5300, 11, -8500, 5000, 13, 12000, 7000, 10700},
+    };
+    /* The ages and amounts of two overhauls. */
+    static const int64_t overhauls[OPTIONS][4] = {
+        {2, 31, 4, 47}, {1, 53, 3, 59}, {3, 61, 5, 67}};
+
+    put_head(at, 1, 40000);
+    for (unsigned option = 0; option < OPTIONS; option++) {
+        uint8_t *record = record_of(at, option);
+        const int64_t *of = overhauls[option];
+
+        put_lives(record, 1, 20);
+        for (size_t n = 0; n < COUNT(fields[option]); n++)
+            put32(record + INVESTMENT + 4 * n, fields[option][n]);
+        put(record + OVERHAUL_COUNT, 1, 2);
+        put_overhaul(record, 0, of[0], of[1]);
+        put_overhaul(record, 1, of[2], of[3]);
+    }
+}
+
+/* r 0, lives 1 to 120; amounts in few years, and in year 15 an overhaul. */
+static void make_sparse_sheet(uint8_t *at)
+{
+    put_head(at, 300, 0);
+    for (unsigned option = 0; option < OPTIONS; option++) {
+        uint8_t *record = record_of(at, option);
+
+        put_lives(record, 1, 120);
+        put32(record + INVESTMENT, 1 + option);
+        put(record + OVERHAUL_COUNT, 1, 1);
+        put_overhaul(record, 0, 15, 10 + option);
+    }
+}
+
+/* After a rate of 1 per cent 9,901 are 1,000,001 cents, and a rate of a
+ * millionth adds 1.000001 cents, which count as two. */
+static void make_rest_sheet(uint8_t *at, size_t amount, size_t rate,
+                            int64_t millionths)
+{
+    uint8_t *record = record_of(at, 2);
+
+    put_head(at, 2, 10000);
+    put_lives(record, 1, 1);
+    put32(record + amount, 9901);
+    put32(record + rate, millionths);
+}
+
+/* The rest is that of general inflation, after ageing. */
+static void make_general_rest_sheet(uint8_t *at)
+{
+    make_rest_sheet(at, MAINTENANCE, MAINTENANCE_AGEING, 10000);
+}
+
+/* That of the payment's own inflation, after general inflation. */
+static void make_own_rest_sheet(uint8_t *at)
+{
+    make_rest_sheet(at, INVESTMENT, INVESTMENT_INFLATION, 1);
+}
+
+/* That of ageing, after a year with general inflation. */
+static void make_ageing_rest_sheet(uint8_t *at)
+{
+    make_rest_sheet(at, ELECTRICITY, ELECTRICITY_AGEING, 1);
+}
+
+/* In case 12 and in the six years nothing is rounded, and chains.c has what
+ * their arcs cost. The other words follow from the rules. None was taken from
+ * the library. */
+const struct budget_case budget_cases[] = {
+    {make_two_year_sheet,
+     "two years",
+     {0, 0, 2, {1, 2}},
+     1000,
+     {2, {10000, 78169, 66483}, {100, 817, 723}}},
+    {make_two_year_sheet,
+     "two years without inflation",
+     {0, 0, 2, {1, 2}},
+     0,
+     {2, {10000, 78169, 66483}, {100, 814, 720}}},
+    {make_general_rest_sheet,
+     "a rest of general inflation",
+     {0, 0, 1, {1}},
+     1,
+     {1, {0, 99010000}, {0, 1000003}}},
+    {make_own_rest_sheet,
+     "a rest of own inflation",
+     {0, 0, 2, {1, 2}},
+     10000,
+     {2, {99010000, 98029801, 0}, {990100, 1000003, 0}}},
+    {make_ageing_rest_sheet,
+     "a rest of ageing",
+     {0, 0, 2, {1, 2}},
+     10000,
+     {2, {0, 98029802, 97059210}, {0, 1000003, 1010004}}},
+    {make_case_12_sheet,
+     "case 12",
+     {0, 0, 2, {2, 4}},
+     0,
+     {4, {100000, 10000, 110000, 10000, 10000}, {1000, 100, 1100, 100, 100}}},
+    {make_case_12_sheet,
+     "case 12 with its overhaul",
+     {0, 0, 2, {1, 4}},
+     0,
+     {4, {100000, 110000, 10000, 160000, 10000}, {1000, 1100, 100, 1600, 100}}},
+    {make_six_year_sheet,
+     "six years",
+     {3, 4, 1, {6}},
+     0,
+     {6,
+      {10000, 100000, 100000, 829000, 6571000000, 100000000, 100000000},
+      {100, 1000, 1000, 8290, 65710000, 1000000, 1000000}}},
+    {make_six_year_sheet,
+     "six years, renovated earlier",
+     {1, 3, 1, {6}},
+     0,
+     {6,
+      {10000, 1000000, 10000000, 7300000000, 100000000, 100000000, 100000000},
+      {100, 10000, 100000, 73000000, 1000000, 1000000, 1000000}}},
+    {make_steep_sheet,
+     "steep",
+     {0, 0, 1, {15}},
+     50000,
+     {15,
+      {0, 10000000000000, 10000000000000, 10000000000000, 10000000000000,
+       10000000000000, 10000000000000, 10000000000000, 10000000000000,
+       10000000000000, 10000000000000, 10000000000000, 10000000000000,
+       10000000000000, 10000000000000, 10000000000000},
+      {0, 126000000000, 158760000000, 200037600000, 252047376000, 317579693760,
+       400150414138, 504189521815, 635278797488, 800451284835, 1008568618894,
+       1270796459808, 1601203539359, 2017516459593, 2542070739089,
+       3203009131254}}},
+    {make_rated_sheet,
+     "1 year",
+     {0, 0, 1, {1}},
+     20000,
+     {1, {25000000, 232781}, {250000, 2474}}},
+    {make_rated_sheet,
+     "14 years",
+     {5, 9, 1, {14}},
+     20000,
+     {14,
+      {1500000, 833934, 1097986, 802825, 1170584, 9700571, 862949, 419772,
+       863208, 18822832, 168223, 163349, 591551, 154077, 149668},
+      {15000, 8850, 12364, 9593, 14840, 130325, 12314, 6363, 13874, 320210,
+       3055, 3151, 12051, 3350, 3455}}},
+    {make_rated_sheet,
+     "15 years",
+     {5, 9, 1, {15}},
+     20000,
+     {15,
+      {1500000, 833934, 1097986, 802825, 1170584, 9700571, 862949, 419772,
+       863208, 18822832, 168223, 163349, 591551, 154077, 598749, 145403},
+      {15000, 8850, 12364, 9593, 14840, 130325, 12314, 6363, 13874, 320210,
+       3055, 3151, 12051, 3350, 13733, 3563}}},
+    {make_rated_sheet,
+     "16 years",
+     {5, 9, 2, {15, 16}},
+     20000,
+     {16,
+      {1500000, 833934, 1097986, 802825, 1170584, 9700571, 862949, 419772,
+       863208, 18822832, 168223, 163349, 591551, 154077, 598749, 15172509,
+       136094},
+      {15000, 8850, 12364, 9593, 14840, 130325, 12314, 6363, 13874, 320210,
+       3055, 3151, 12051, 3350, 13733, 367814}}},
+    {make_rated_sheet,
+     "17 years",
+     {5, 9, 2, {15, 17}},
+     20000,
+     {17,
+      {1500000, 833934, 1097986, 802825, 1170584, 9700571, 862949, 419772,
+       863208, 18822832, 168223, 163349, 591551, 154077, 598749, 15172509,
+       136094, 132239},
+      {15000, 8850, 12364, 9593, 14840, 130325, 12314, 6363, 13874, 320210,
+       3055, 3151, 12051, 3350, 13733, 367814}}},
+    {make_sparse_sheet,
+     "300 years",
+     {120, 240, 1, {300}},
+     50000,
+     {300,
+      {[0] = 10000,
+       [15] = 100000,
+       [120] = 20000,
+       [135] = 110000,
+       [240] = 30000,
+       [255] = 120000},
+      {[0] = 100, [15] = 2088}}},
+};
+
+const size_t budget_case_count = COUNT(budget_cases);
+
+struct bytes put_budget_case(const struct budget_case *of, uint8_t *at,
+                             uint8_t *plan_at)
+{
+    of->make(at);
+    put16(at + HORIZON, of->ledger.horizon);
+    return put_plan(plan_at, &of->chain);
+}
+
+static void test_cases(void)
+{
+    for (size_t n = 0; n < budget_case_count; n++) {
+        const struct budget_case *of = &budget_cases[n];
+
+        name_case("budget of %s", of->name);
+        expect_ledger(put_budget_case(of, sheet, plan), of->general,
+                      &of->ledger);
+    }
+}
+
+/* ---- general inflation ---- */
+
+/* An investment of 10^9 in years 0 and 1, of which a millionth is 100,000
+ * cents. */
+static void test_generals(void)
+{
+    static const uint64_t generals[] = {0, 1, 2, 999, 32768, 49999, 50000};
+    uint8_t *record = record_of(sheet, 2);
+
+    put_head(sheet, 2, 0);
+    put_lives(record, 1, 1);
+    put32(record + INVESTMENT, 1000000000);
+    for (size_t n = 0; n < COUNT(generals); n++) {
+        const struct ledger ledger = {
+            2,
+            {10000000000000, 10000000000000, 0},
+            {100000000000, 100000000000 + 100000 * generals[n], 0}};
+
+        name_case("two investments, general %" PRIu64, generals[n]);
+        expect_ledger(put_even_plan(plan, 1, 2), generals[n], &ledger);
+    }
+}
+
+/* ---- each payment by itself ---- */
+
+/* Maintain from 0 to i, renovate from i to j, one replacement from j to the
+ * horizon; an activity of length 0 pays nothing. */
+struct span {
+    unsigned i, j, horizon;
+};
+
+static const struct span spans[] = {
+    {1, 1, 1},    {0, 1, 1},    {0, 0, 1},       {14, 14, 14}, {0, 14, 14},
+    {0, 0, 14},   {4, 9, 14},   {15, 15, 15},    {0, 15, 15},  {0, 0, 15},
+    {14, 14, 15}, {13, 14, 15}, {16, 16, 16},    {0, 16, 16},  {0, 0, 16},
+    {15, 15, 16}, {14, 15, 16}, {1, 15, 16},     {1, 1, 16},   {15, 16, 16},
+    {2, 14, 17},  {14, 16, 17}, {120, 240, 300}, {15, 30, 120}};
+
+/* Eight overhauls of 1 stand for one payment. */
+static const unsigned ages[] = {1, 2, 12, 13, 14, 15, 16, 59};
+
+/* The field of an amount; OVERHAULS for all the overhauls. */
+static const size_t payments[] = {INVESTMENT, MAINTENANCE, ELECTRICITY,
+                                  OVERHAULS};
+
+/* An amount of 1, at r 0 and without inflation. */
+static void pay(struct ledger *ledger, unsigned year)
+{
+    ledger->units[year] += 10000;
+    if (year <= LAST_OF_CENTS)
+        ledger->cents[year] += 100;
+}
+
+/* What an activity pays that has this payment alone. */
+static void pay_all(struct ledger *ledger, size_t payment, unsigned start,
+                    unsigned end)
+{
+    if (payment == INVESTMENT && start < end)
+        pay(ledger, start);
+    for (size_t n = 0; payment == OVERHAULS && n < COUNT(ages); n++)
+        if (start + ages[n] < end)
+            pay(ledger, start + ages[n]);
+    if (payment == MAINTENANCE || payment == ELECTRICITY)
+        for (unsigned year = start + 1; year <= end; year++)
+            pay(ledger, year);
+}
+
+/* Every option is offered; one has this payment. */
+static void make_paying_sheet(unsigned horizon, unsigned option, size_t payment)
+{
+    uint8_t *record = record_of(sheet, option);
+
+    put_head(sheet, horizon, 0);
+    for (unsigned each = 0; each < OPTIONS; each++)
+        put_lives(record_of(sheet, each), 1, 120);
+    if (payment != OVERHAULS) {
+        put32(record + payment, 1);
+        return;
+    }
+    put(record + OVERHAUL_COUNT, 1, COUNT(ages));
+    for (size_t n = 0; n < COUNT(ages); n++)
+        put_overhaul(record, n, ages[n], 1);
+}
+
+static void test_payment(struct span span, unsigned option, size_t payment)
+{
+    const unsigned years[] = {0, span.i, span.j, span.horizon};
+    struct chain chain = {(uint16_t)span.i,
+                          (uint16_t)span.j,
+                          span.j < span.horizon,
+                          {(uint16_t)span.horizon}};
+    struct ledger ledger = {.horizon = span.horizon};
+
+    name_case("payment %zu of option %u, i %u, j %u, T %u", payment, option,
+              span.i, span.j, span.horizon);
+    make_paying_sheet(span.horizon, option, payment);
+    pay_all(&ledger, payment, years[option], years[option + 1]);
+    expect_ledger(put_plan(plan, &chain), 0, &ledger);
+}
+
+static void test_payments(void)
+{
+    for (size_t n = 0; n < COUNT(spans); n++)
+        for (unsigned option = 0; option < OPTIONS; option++)
+            for (size_t k = 0; k < COUNT(payments); k++)
+                test_payment(spans[n], option, payments[k]);
+}
+
+/* ---- 300 replacements ---- */
+
+static uint64_t up(uint64_t dividend, uint64_t divisor)
+{
+    return (dividend + divisor - 1) / divisor;
+}
+
+/* An investment of 10^9 every year, which is a tenth less than that of the year
+ * before; in cents general inflation adds a twentieth first. */
+static void test_falling_investments(void)
+{
+    uint8_t *record = record_of(sheet, 2);
+    struct ledger ledger = {300, {10000000000000}, {100000000000}};
+
+    name_case("300 investments that fall");
+    put_head(sheet, 300, 0);
+    put_lives(record, 1, 1);
+    put32(record + INVESTMENT, 1000000000);
+    put32(record + INVESTMENT_INFLATION, -100000);
+    for (unsigned year = 1; year < 300; year++)
+        ledger.units[year] = up(ledger.units[year - 1] * 9, 10);
+    for (unsigned year = 1; year <= LAST_OF_CENTS; year++)
+        ledger.cents[year] = up(up(ledger.cents[year - 1] * 21, 20) * 9, 10);
+    expect_ledger(put_even_plan(plan, 1, 300), 50000, &ledger);
+}
+
+/* Three payments of 10^13 units in each year, as in chains.c; those of year 0
+ * and of year 300 are one and two. In cents they grow by 26 per cent a year. */
+static void test_largest_words(void)
+{
+    struct ledger ledger = {
+        300,
+        {10000000000000},
+        {100000000000, 378000000000, 476280000000, 600112800000, 756142128000,
+         952739081280, 1200451242414, 1512568565442, 1905836392458,
+         2401353854502, 3025705856676, 3812389379415, 4803610618068,
+         6052549378767, 7626212217249, 9609027393738}};
+
+    name_case("largest words");
+    make_dear_sheet(sheet);
+    for (unsigned year = 1; year < 300; year++)
+        ledger.units[year] = 30000000000000;
+    ledger.units[300] = 20000000000000;
+    expect_ledger(put_even_plan(plan, 1, 300), 50000, &ledger);
+}
+
+void test_budgets(void)
+{
+    test_cases();
+    test_generals();
+    test_payments();
+    test_falling_investments();
+    test_largest_words();
+}

@@ -1,0 +1,234 @@
+"""Checks of the budget by year: its rule, and its two charts in what tools/plot draws."""
+
+import random
+import struct
+from xml.etree import ElementTree
+
+from . import sheets
+from .charts import OF_THE_YEAR, PRESENT, chart, charts_tell
+from .pictures import drawn, laid_out, plan_bytes, texts
+
+MILLION = 10**6
+
+
+def two_years():
+    """A replacement a year for two years: 1 euro, and 7 for maintenance, with inflation and ageing."""
+    sheet = sheets.only_replace(2, 40_000, 1, 1, 1, 7)
+    sheet = sheets.put_option(sheet, 2, sheets.INVESTMENT_INFLATION, 'i', 10_000)
+    sheet = sheets.put_option(sheet, 2, sheets.MAINTENANCE_INFLATION, 'i', 10_000)
+    return sheets.put_option(sheet, 2, sheets.MAINTENANCE_AGEING, 'I', 7_000)
+
+
+TWO_YEARS = two_years()
+TWO_YEARS_ENDS = [0, 0, 1, 2]
+TWO_YEARS_UNITS = [10_000, 78_169, 66_483]
+TWO_YEARS_CENTS = [100, 817, 723]  # general inflation of 0.1 %
+
+# Five years without rates, by hand: maintain 0 to 2, renovate 2 to 3, replace 3 to 5. In a year in which one activity
+# ends and the next starts both pay; an overhaul at the age at which the asset is given up is not paid.
+BY_HAND = (sheets.head(5, 0) + sheets.record(1, 2, 100, 10, overhauls=[(1, 7), (2, 9)]) + sheets.record(1, 1, 200, 20)
+           + sheets.record(1, 2, 300, 30, overhauls=[(1, 5)]))
+BY_HAND_ENDS = [2, 3, 5]
+BY_HAND_EUROS = [100, 7 + 10, 10 + 200, 20 + 300, 5 + 30, 30]
+# The same at 5 % of general inflation, each payment rounded up to a cent each year.
+BY_HAND_CENTS = [10_000, 735 + 1_050, 1_103 + 22_050, 2_316 + 34_729, 609 + 3_648, 3_831]
+
+HORIZONS = (1, 2, 14, 15, 16, 17, 40, 300)  # of chains from any hand
+LONGEST = 60  # of their activities, in years
+
+
+def run(bench):
+    checked_figures(bench)
+    by_hand(bench)
+    year_15(bench)
+    against_a_listing(bench)
+    the_paper_by_year(bench)
+    only_when_asked(bench)
+    spikes(bench)
+    nothing_paid(bench)
+    general_inflation(bench)
+
+
+def budget(sheet, ends, general=None):
+    from nimovalsa.budget import budget_of
+    from nimovalsa.plan import chain_of
+    from nimovalsa.sheet import decode
+    return budget_of(decode(sheet), chain_of(ends), general)
+
+
+def checked_figures(bench):
+    """Figures worked out apart from the tools; general inflation behind the own, or ageing last, gives other cents."""
+    got = budget(TWO_YEARS, TWO_YEARS_ENDS, 1_000)
+    bench.equal(got.units, TWO_YEARS_UNITS, 'the units of two years')
+    bench.equal(got.cents, TWO_YEARS_CENTS, 'the cents of two years')
+    bench.equal(budget(TWO_YEARS, TWO_YEARS_ENDS).cents, None, 'cents without general inflation')
+    bench.put('two', TWO_YEARS)
+    picture = drawn(bench, 'two', sum(TWO_YEARS_UNITS), TWO_YEARS_ENDS, '0.1%')
+    charts_tell(bench, picture, TWO_YEARS_UNITS, TWO_YEARS_CENTS, 'two years')
+
+
+def by_hand(bench):
+    units = [10_000 * euros for euros in BY_HAND_EUROS]
+    bench.put('five', BY_HAND)
+    for general, text, cents in ((0, '0%', [100 * euros for euros in BY_HAND_EUROS]), (50_000, '5 %', BY_HAND_CENTS)):
+        bench.equal(budget(BY_HAND, BY_HAND_ENDS, general), (units, general, cents), f'five years at {text}')
+        picture = drawn(bench, 'five', sum(units), BY_HAND_ENDS, text)
+        charts_tell(bench, picture, units, cents, f'five years at {text}')
+
+
+def year_15(bench):
+    """The last year in money of the year has all that falls in it: one replacement ends, and the next starts."""
+    sheet = sheets.only_replace(30, 0, 15, 15, 100, 1)
+    got = budget(sheet, [0, 0, 15, 30], 0)
+    bench.equal(got.cents, [10_000] + 14 * [100] + [10_100], 'a replacement in year 15')
+    bench.equal(got.units[16:], 15 * [10_000], 'the years behind it')
+
+
+def against_a_listing(bench):
+    """Any sheets and chains, beside a list of all payments that is written from document 02's words."""
+    source = random.Random(2)
+    for horizon in HORIZONS:
+        for general in (0, 1, 50_000):
+            sheet = any_sheet(source, horizon)
+            ends = any_ends(source, horizon)
+            got = budget(sheet, ends, general)
+            rate = MILLION + struct.unpack_from('<I', sheet, sheets.RATE)[0]
+            paid = list(listed(sheet, ends))
+            bench.equal(got.units, summed(paid, horizon, units_of, rate), f'units, horizon {horizon}, ends {ends}')
+            bench.equal(got.cents, summed(paid, min(15, horizon), cents_of, MILLION + general),
+                        f'cents, horizon {horizon}, ends {ends}')
+            bench.put('any', sheet)
+            picture = drawn(bench, 'any', sum(got.units), ends, f'{general // 10_000}.{general % 10_000:04}%')
+            charts_tell(bench, picture, got.units, got.cents, f'horizon {horizon}, ends {ends}')
+
+
+def any_sheet(source, horizon):
+    """A sheet of this horizon whose options all have the lives from 1 to LONGEST years."""
+    sheet = sheets.put(sheets.random_sheet(source), sheets.HORIZON, 'H', horizon)
+    for option in range(3):
+        sheet = sheets.put_option(sheet, option, sheets.SHORTEST, 'H', 1)
+        sheet = sheets.put_option(sheet, option, sheets.LONGEST, 'H', LONGEST)
+    return sheet
+
+
+def any_ends(source, horizon):
+    """The ends of a chain that such a sheet offers."""
+    ends = [source.randint(0, min(LONGEST, horizon))]
+    ends.append(source.randint(ends[0], min(ends[0] + LONGEST, horizon)))
+    while ends[-1] < horizon:
+        ends.append(min(ends[-1] + source.randint(1, LONGEST), horizon))
+    return ends
+
+
+def listed(sheet, ends):
+    """Every payment of a chain: amount, factors of inflation and ageing, plain steps, steps in service."""
+    for place, (start, end) in enumerate(zip([0, *ends], ends)):
+        record = sheets.RECORDS + sheets.RECORD_BYTES * min(place, 2)
+        invested, f0, maintained, f1, g1, powered, f2, g2, f3, count = struct.unpack_from('<IiIiIIiIiB', sheet,
+                                                                                          record + sheets.INVESTMENT)
+        if start < end:
+            yield invested, MILLION + f0, MILLION, start, 0
+        for entry in range(count):
+            age, amount = struct.unpack_from('<HI', sheet, record + sheets.OVERHAULS + 6 * entry)
+            if age < end - start:
+                yield amount, MILLION + f3, MILLION, start + age, 0
+        for year in range(1, end - start + 1):
+            yield maintained, MILLION + f1, MILLION + g1, start, year
+            yield powered, MILLION + f2, MILLION + g2, start, year
+
+
+def summed(paid, last, worth, factor):
+    """What is paid in each year: the year of a payment is the number of its steps."""
+    return [sum(worth(factor, *payment) for payment in paid if payment[3] + payment[4] == year)
+            for year in range(last + 1)]
+
+
+def units_of(rate, amount, inflation, ageing, plain, served):
+    return moved(amount * 10_000, plain * [(inflation, rate)] + served * [(ageing, MILLION), (inflation, rate)])
+
+
+def cents_of(general, amount, inflation, ageing, plain, served):
+    step = [(general, MILLION), (inflation, MILLION)]
+    return moved(amount * 100, plain * step + served * [(ageing, MILLION), *step])
+
+
+def moved(amount, factors):
+    for numerator, denominator in factors:
+        amount = (amount * numerator + denominator - 1) // denominator
+    return amount
+
+
+def the_paper_by_year(bench):
+    """The case study: a new station in year 0, overhauls every 15 years, another station every 60."""
+    ends = [0, 0, 60, 120, 180, 240, 300]
+    got = budget(sheets.PAPER, ends, 20_000)
+    bench.equal(sum(got.units), 38_979_215_559, 'the years of the case study add up to its total')
+    bench.equal((got.units[0], got.cents[0], len(got.units), len(got.cents)), (25_000_000_000, 250_000_000, 301, 16),
+                'the first year of the case study')
+    largest = sorted(range(301), key=lambda year: got.units[year])[-6:]
+    bench.equal(sorted(largest), [0, 15, 30, 45, 60, 120], 'its years of largest present value')
+    bench.put('paper', sheets.PAPER)
+    picture = drawn(bench, 'paper', sum(got.units), ends, '2%')
+    charts_tell(bench, picture, got.units, got.cents, 'the case study')
+    bench.holds('2,500,000.00' in texts(chart(picture, OF_THE_YEAR)), 'the money of year 0')
+    bench.holds('line' in texts(chart(picture, PRESENT))[1], 'bars too low to be seen are told of')
+
+
+def only_when_asked(bench):
+    """Money of the year is drawn where general inflation is given, be it 0, and changes nothing else."""
+    total = sum(TWO_YEARS_UNITS)
+    alone = drawn(bench, 'two', total, TWO_YEARS_ENDS)
+    bench.holds(chart(alone, OF_THE_YEAR) is None and 'money of the year' not in ' '.join(texts(alone)),
+                'no money of the year unless asked')
+    bench.holds(chart(alone, PRESENT) is not None, 'present values are always drawn')
+    laid_out(bench, alone, 'without money of the year')
+    for general, shown in (('0%', '0 %'), ('5%', '5 %'), ('1.75 %', '1.75 %')):
+        both = drawn(bench, 'two', total, TWO_YEARS_ENDS, general)
+        money = chart(both, OF_THE_YEAR)
+        titles = texts(money)[:2]
+        bench.holds('money of the year, years 0 to 2' in titles[0] and f'inflation of {shown} a year' in titles[1]
+                    and 'never to be added to a present value' in titles[1], f'the titles with {general}: {titles}')
+        bench.holds('present value' in texts(chart(both, PRESENT))[0], 'the title of present values')
+        both.remove(money)
+        for name in ('height', 'viewBox'):
+            both.set(name, alone.get(name))
+        bench.equal(shapes(both), shapes(alone), f'what else is drawn with {general}')
+
+
+def shapes(picture):
+    return [(part.tag, sorted(part.items()), (part.text or '').strip()) for part in picture.iter()]
+
+
+def spikes(bench):
+    """One payment that dwarfs all others, at the beginning, between and at the end."""
+    for year in (0, 7, 19):
+        invested, overhauls = (0, [(year, 10**9)]) if year else (10**9, [])
+        units = [0] + 20 * [10_000]
+        units[year] += 10**13
+        cents = [amount // 100 for amount in units[:16]]
+        bench.put('spike', sheets.only_replace(20, 0, 1, 20, invested, 1, overhauls=overhauls))
+        picture = drawn(bench, 'spike', sum(units), [0, 0, 20], '0%')
+        charts_tell(bench, picture, units, cents, f'a spike in year {year}')
+
+
+def nothing_paid(bench):
+    bench.put('free', sheets.head(1, 0) + sheets.record(1, 1) + 2 * sheets.record())
+    picture = drawn(bench, 'free', 0, [1, 1], '2%')
+    charts_tell(bench, picture, [0, 0], [0, 0], 'a plan that costs nothing')
+    bench.holds('nothing is paid' in texts(chart(picture, PRESENT))[1], 'it is said that nothing is paid')
+
+
+def general_inflation(bench):
+    """A rate as in a text sheet, from 0 % to 5 %; another is told of in one line, and nothing is written."""
+    bench.put('plan', plan_bytes(sum(TWO_YEARS_UNITS), TWO_YEARS_ENDS))
+    for text in ('', '2', '0.02', '2,5%', '2.00001%', '%', '2%%', '2 per cent', 'b.svg', '-', '--help', '+2%', '\n2%'):
+        bench.fails('general inflation: cannot read ', 'plot', 'two', 'plan', 'never.svg', text, status=2)
+    for text, shown in (('5.0001%', '5.0001 %'), ('-0.0001%', '-0.0001 %'), ('6 %', '6 %'), ('100%', '100 %')):
+        bench.fails(f'general inflation is {shown}, must be from 0 % to 5 %', 'plot', 'two', 'plan', 'never.svg', text,
+                    status=2)
+    bench.fails('general inflation is 9 %', 'plot', 'none', 'none', 'never.svg', '9%', status=2)
+    bench.fails('none: cannot be read: ', 'plot', 'two', 'none', 'never.svg', '2%')
+    run = bench.program('plot', 'two', 'plan', '-', '2%')
+    bench.equal((run.status, run.err), (0, ''), 'tools/plot with general inflation, as a program')
+    bench.holds(chart(ElementTree.fromstring(run.out), OF_THE_YEAR) is not None, 'what it draws')
+    bench.holds(b'tools/plot SHEET PLAN OUT.svg GENERAL' in bench.succeeds('plot', '--help'), 'GENERAL in --help')
