@@ -7,7 +7,7 @@ abbrev pub mostCents : ℕ → ℕ
 mostCents zero = 100_000_000_000
 mostCents (suc k) = (126 * mostCents k + 346) / 100
 
--- no more than that after 15 years, 3,203,009,131,581
+-- above `mostCents 15`, which is 3,203,009,131,581
 abbrev pub largestCents : ℕ
 largestCents = 4_000_000_000_000
 

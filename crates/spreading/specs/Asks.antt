@@ -48,6 +48,7 @@ pub record MoneyFits (m : Money) : Type 0 where
   pub inflation : m .general ≤ 1_050_000
   pub early : m .last ≤ lastNominal
 
+-- it can, and there are words of its years, none of which is above b
 pub record MoneyAsks (words : List ℕ) (m : Money) (b : ℕ) : Type 0 where
   pub money : MoneyFits m
   pub room : Room words (m .last) b
@@ -64,7 +65,7 @@ pub record FlowPasses (w : Flow) : Type 0 where
   pub high : discount ≤ 1_200_000
   pub fits : FlowFits discount w
 
--- the same of an arc
+-- an arc in money of the year: as above, until it starts no word is more than the years before it can have cost
 pub record MoneyArcAsks (words : List ℕ) (kept : Kept) (m : Money) (years : ℕ) : Type 0 where
   pub fits : KeptFits kept
   pub money : MoneyFits m
