@@ -23,7 +23,7 @@ use Rattle.chain.specs.PlanBytes.{decode}
 use Rattle.pricing.specs.Pricing.{priced, PricedAt}
 use Rattle.pricing.proofs.PriceLaws.{accepted-iff, priced-accepted, priced-option, priced-total, priced-number-le, priced-packs}
 use Rattle.budget.specs.Budget.{unitsIn, unitsOf, centsIn, lastInCents, centsOf, roomy, budgetNumber, budgetAnswer, unitsAfter, centsAfter}
-use Rattle.budget.specs.Promises.{Priced, unitsNeeded, AddsUp, LeavesBehind, PricedFirst, PromisedBudget}
+use Rattle.budget.specs.Promises.{Priced, unitsNeeded, PricedFirst, RefusedFifteen, RefusedSixteen, AcceptedAt, AddsUp, LeavesBehind, PromisedBudget}
 use Rattle.budget.proofs.AddsLaws.{sum, units-add}
 
 -- both lists are long enough, or one is not
@@ -77,6 +77,14 @@ module _ (s plan : List ℕ) (general : ℕ) (units cents : List ℕ) where
     leaves-all : LeavesBehind s (b .number) units cents units cents
     leaves-all = record { left = λ z. (refl, refl); unitsBehind = λ y l. refl; centsBehind = λ y l. refl; lengths = (refl, refl) }
 
+    refusal-ended :
+        PricedFirst s plan b → RefusedFifteen s plan general (b .number) → RefusedSixteen s plan general units cents (b .number)
+        → AcceptedAt s plan general units cents b → Ended s plan general units cents b units cents
+    refusal-ended first fifteen sixteen taken =
+        let promised : PromisedBudget s plan general units cents b units cents =
+        record { first = first; fifteen = fifteen; sixteen = sixteen; accepted = taken; adds = adds-none; left = leaves-all } in
+        (is, (lists-left .0, (lists-left .1, promised)))
+
   -- `a` is what pricing answered
   module _ (a : Answer) (answer : a ≡ priced s plan) (iff : (t : ℕ) → ((a .number ≡ 0) × (a .total ≡ t)) ↔ PricedAt s plan t) where
     small : a .number ≤ 14
@@ -85,29 +93,17 @@ module _ (s plan : List ℕ) (general : ℕ) (units cents : List ℕ) where
     pub refused-ended : (a .number ≡ 0 → ⊥) → Ended s plan general units cents a units cents
     unfolding budgetAnswer
     refused-ended d =
-        let e = answer ∙ sym (orElse-stop (priced s plan) _ (λ z. d (ap (λ (x : Answer). x .number) answer ∙ z))) in
-        let lists = lists-left a e d in
-        let out : Priced s plan → ⊥ = λ h. d (iff (h .0) .1 (h .1) .0) in (
-          e,
-          (
-            lists .0,
-            (
-              lists .1,
-              record {
-                first = record {
-                  faulty = λ _. answer;
-                  option = λ h. ap (λ (x : Answer). x .option) answer ∙ priced-option s plan h;
-                  total = λ _. ap (λ (x : Answer). x .total) answer ∙ priced-total s plan (λ z. d (ap (λ (x : Answer). x .number) answer ∙ z));
-                };
-                fifteen = (λ z. absurd (omega (arith, small)), λ h. absurd (out (h .0)));
-                sixteen = (λ z. absurd (omega (arith, small)), λ h. absurd (out (h .0)));
-                accepted = λ t. (λ z. absurd (d (z .0)), λ h. absurd (out (t, h .0)));
-                adds = adds-none a e d;
-                left = leaves-all a e d;
-              },
-            ),
-          ),
-        )
+        let no : priced s plan .number ≡ 0 → ⊥ = λ z. d (ap (λ (x : Answer). x .number) answer ∙ z) in
+        let out : Priced s plan → ⊥ = λ h. d (iff (h .0) .1 (h .1) .0) in
+        refusal-ended a (answer ∙ sym (orElse-stop (priced s plan) _ no)) d
+        (record {
+          faulty = λ _. answer;
+          option = λ h. ap (λ (x : Answer). x .option) answer ∙ priced-option s plan h;
+          total = λ _. ap (λ (x : Answer). x .total) answer ∙ priced-total s plan no;
+        })
+        (λ z. absurd (omega (arith, small)), λ h. absurd (out (h .0)))
+        (λ z. absurd (omega (arith, small)), λ h. absurd (out (h .0)))
+        (λ t. (λ z. absurd (d (z .0)), λ h. absurd (out (t, h .0))))
 
     module _ (zero : a .number ≡ 0) where
       is-priced : Priced s plan
@@ -134,23 +130,10 @@ module _ (s plan : List ℕ) (general : ℕ) (units cents : List ℕ) where
           let e : b ≡ budgetAnswer s plan general units cents = is ∙ sym (owned ∙ rw n) in
           let number : b .number ≡ 15 = ap (λ (x : Answer). x .number) is in
           let d : b .number ≡ 0 → ⊥ = λ z. omega arith in
-          let lists = lists-left b e d in (
-            e,
-            (
-              lists .0,
-              (
-                lists .1,
-                record {
-                  first = own-first 15 b is;
-                  fifteen = (λ z. (is-priced, high), λ h. number);
-                  sixteen = (λ z. absurd (omega arith), λ h. absurd (let l = h .1 in omega arith));
-                  accepted = λ t. (λ z. absurd (d (z .0)), λ h. absurd (let l = h .1 in omega arith));
-                  adds = adds-none b e d;
-                  left = leaves-all b e d;
-                },
-              ),
-            ),
-          )
+          refusal-ended b e d (own-first 15 b is)
+          (λ z. (is-priced, high), λ h. number)
+          (λ z. absurd (omega arith), λ h. absurd (let l = h .1 in omega arith))
+          (λ t. (λ z. absurd (d (z .0)), λ h. absurd (let l = h .1 in omega arith)))
 
       module _ (fair : general ≤ 50_000) where
         pub short-ended :
@@ -161,27 +144,14 @@ module _ (s plan : List ℕ) (general : ℕ) (units cents : List ℕ) where
             let e : b ≡ budgetAnswer s plan general units cents = is ∙ sym (owned ∙ rw n) in
             let number : b .number ≡ 16 = ap (λ (x : Answer). x .number) is in
             let d : b .number ≡ 0 → ⊥ = λ z. omega arith in
-            let lists = lists-left b e d in
-            let some = roomy-short T (length units) (length cents) short in (
-              e,
-              (
-                lists .0,
-                (
-                  lists .1,
-                  record {
-                    first = own-first 16 b is;
-                    fifteen = (λ z. absurd (omega arith), λ h. absurd (let l = h .1 in omega arith));
-                    sixteen = (λ z. (is-priced, fair, ⊎-elim (λ k. inl (omega arith)) (λ k. inr (omega arith)) some), λ h. number);
-                    accepted = λ t. (
-                      λ z. absurd (d (z .0)),
-                      λ h. absurd (let l = h .2 in let m = h .3 in ⊎-elim (λ k. omega arith) (λ k. omega arith) some),
-                    );
-                    adds = adds-none b e d;
-                    left = leaves-all b e d;
-                  },
-                ),
-              ),
-            )
+            let some = roomy-short T (length units) (length cents) short in
+            refusal-ended b e d (own-first 16 b is)
+            (λ z. absurd (omega arith), λ h. absurd (let l = h .1 in omega arith))
+            (λ z. (is-priced, fair, ⊎-elim (λ k. inl (omega arith)) (λ k. inr (omega arith)) some), λ h. number)
+            (λ t. (
+              λ z. absurd (d (z .0)),
+              λ h. absurd (let l = h .2 in let m = h .3 in ⊎-elim (λ k. omega arith) (λ k. omega arith) some),
+            ))
 
         -- both lists are written
         module _ (units′ cents′ : List ℕ) (long : roomy T (length units) (length cents) ≡ true)
@@ -233,27 +203,21 @@ module _ (s plan : List ℕ) (general : ℕ) (units cents : List ℕ) where
               let lists = lists-written in
               let w = room in
               let u = w .0 in
-              let v = w .1 in (
-                answer-accepted,
-                (
-                  lists .0,
-                  (
-                    lists .1,
-                    record {
-                      first = record {
-                        faulty = λ out. absurd (out is-priced);
-                        option = λ h. ap (λ (x : Answer). x .option) answer ∙ priced-option s plan h;
-                        total = λ d. absurd (d zero);
-                      };
-                      fifteen = (λ z. absurd (omega arith), λ h. absurd (let l = h .1 in omega arith));
-                      sixteen = (λ z. absurd (omega arith), λ h. absurd (⊎-elim (λ k. omega arith) (λ k. omega arith) (h .2)));
-                      accepted = λ t. (λ z. (iff t .0 z, fair, omega arith, omega arith), λ h. iff t .1 (h .0));
-                      adds = record { sum = λ _. words-add {n = unitsNeeded s} (omega arith); total = λ _. answer };
-                      left = leaves-behind;
-                    },
-                  ),
-                ),
-              )
+              let v = w .1 in
+              let promised : PromisedBudget s plan general units cents a units′ cents′ =
+              record {
+                first = record {
+                  faulty = λ out. absurd (out is-priced);
+                  option = λ h. ap (λ (x : Answer). x .option) answer ∙ priced-option s plan h;
+                  total = λ d. absurd (d zero);
+                };
+                fifteen = (λ z. absurd (omega arith), λ h. absurd (let l = h .1 in omega arith));
+                sixteen = (λ z. absurd (omega arith), λ h. absurd (⊎-elim (λ k. omega arith) (λ k. omega arith) (h .2)));
+                accepted = λ t. (λ z. (iff t .0 z, fair, omega arith, omega arith), λ h. iff t .1 (h .0));
+                adds = record { sum = λ _. words-add {n = unitsNeeded s} (omega arith); total = λ _. answer };
+                left = leaves-behind;
+              } in
+              (answer-accepted, (lists .0, (lists .1, promised)))
 
   -- the range of the answer, and what a C form has room for
   own-le : own ≤ 16

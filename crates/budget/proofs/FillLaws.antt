@@ -17,8 +17,9 @@ use Rattle.sheet.specs.declared.Sheet.{Sheet}
 use Rattle.checking.specs.Fit.{Fit}
 use Rattle.steps.specs.Payment.{Payment, rounded}
 use Rattle.costing.specs.Arc.{keptOf, arcOf, paid, payments}
-use Rattle.costing.specs.Fit.{yearly}
+use Rattle.costing.specs.Fit.{yearly, Small}
 use Rattle.costing.specs.declared.Kept.{Kept}
+use Rattle.costing.proofs.SizeLaws.{paid-most, units-small}
 use Rattle.costing.proofs.SheetArcLaws.{keptOf-fits, kept-read}
 use Rattle.chain.specs.Chain.{replacements, activities, arcsOf, arcs, Feasible}
 use Rattle.chain.specs.PlanBytes.{countField, endsAt, decode}
@@ -29,7 +30,7 @@ use Rattle.spreading.specs.Raised.{upTo, inMoney, Raised}
 use Rattle.spreading.specs.Asks.{Below, MoneyFits}
 use Rattle.spreading.specs.declared.Money.{Money}
 use Rattle.spreading.proofs.RaisedLaws.{below-raised, fallen-behind, fallen-upTo, fallen-past}
-use Rattle.spreading.proofs.SizeLaws.{Small, paid-most, units-small, cents-small}
+use Rattle.spreading.proofs.SizeLaws.{cents-small}
 use Rattle.budget.specs.Budget.{paymentsOf, unitsIn, unitsOf, centsIn, lastInCents, centsOf}
 use Rattle.budget.proofs.AddsLaws.{chain-by}
 

@@ -1,5 +1,10 @@
--- How large the figures of an arc can be, if its option passes the checks: a payment at most `largestPayment` units, an arc at most 11
--- payments a year. Assumes nothing.
+-- How large the figures of an arc can be, if its option passes the checks. In order:
+--     inYear-le, inYear-fits, flow-units-le      a year of a flow, in units
+--     paidIf-le, forEach-le      sums of any figure that is bounded
+--     due-most, walked-most, paid-most      a figure that is at most `largestPayment` of each payment: 11 payments a year at most
+--     units-small      units are such a figure
+--     overhauls-le, walked-le, paid-le      so these are bounds on what an arc costs
+-- Assumes nothing.
 use Prim.Native.Nat.{ℕ, zero, suc, _+_, _*_, _≤_, _<_}
 use mathlib.Core.List.{List}
 use mathlib.Core.Bool.{Bool, true, false}
@@ -15,12 +20,12 @@ use Rattle.steps.specs.Payment.{Payment, rounded}
 use Rattle.steps.specs.Fit.{largestPayment, ServiceFits}
 use Rattle.steps.proofs.RoomLaws.{services-le, plains-le, once-le}
 use Rattle.costing.specs.Arc.{inYear, investment, maintenance, electricity, ageOf, overhaul, forEach, paidIf, paid, worth}
-use Rattle.costing.specs.Fit.{yearly, KeptFits}
+use Rattle.costing.specs.Fit.{yearly, KeptFits, Small}
 use Rattle.costing.specs.Walk.{atAge, overhaulsAt, added, walked}
 use Rattle.costing.specs.declared.Kept.{Kept}
 use Rattle.costing.proofs.SumLaws as Sum
 
-pub inYear-le :
+inYear-le :
     (discount : ℕ) (w : Flow) (t k : ℕ) → 0 < discount → FlowFits discount w → rounded discount (inYear w t k) ≤ w .amount * 10_000 + k
 unfolding rounded inYear
 inYear-le discount w t k positive h =
@@ -41,7 +46,12 @@ inYear-fits discount w t k low high h few =
       product = h .product;
     }
 
-pub paidIf-le : (φ : Payment → ℕ) (holds : Bool) (p : Payment) → sumOf φ (paidIf holds p) ≤ φ p
+-- a year of a flow in units
+pub flow-units-le :
+    (discount : ℕ) (w : Flow) (t k : ℕ) → 0 < discount → FlowFits discount w → k ≤ 300 → rounded discount (inYear w t k) ≤ largestPayment
+flow-units-le discount w t k positive fits few = omega (arith, inYear-le discount w t k positive fits, fits .amount)
+
+paidIf-le : (φ : Payment → ℕ) (holds : Bool) (p : Payment) → sumOf φ (paidIf holds p) ≤ φ p
 paidIf-le φ true p = rw (Sum.paidIf-true φ p) (omega arith)
 paidIf-le φ false p = rw (Sum.paidIf-false φ p) (omega arith)
 
@@ -53,11 +63,36 @@ forEach-le φ b (suc n) f h =
     let last = h n (omega arith) in
     rw (Sum.forEach-suc φ n f) (omega arith)
 
+-- any figure that is small of the payments of an arc
+module _ (φ : Payment → ℕ) (a : Kept) (h : KeptFits a) (m : ℕ) (small : Small φ a m) where
+  -- of the first k overhauls those that some test lets through
+  pub due-most :
+      (due : ℕ → Bool) (k : ℕ) → k ≤ a .terms .overhauls .count → sumOf φ (forEach k (λ j. paidIf (due j) (overhaul a j))) ≤ k * largestPayment
+  due-most due k few =
+      forEach-le φ largestPayment k _ (λ j l. le-trans (paidIf-le φ (due j) (overhaul a j)) (small .overhauled j (omega arith)))
+
+  added-most : (n : ℕ) → n < m → sumOf φ (added a n) ≤ 10 * largestPayment
+  unfolding overhaulsAt
+  added-most n l =
+      let few = h .terms .overhauls .count in
+      let due = due-most (λ j. eqb (ageOf a j) n) (a .terms .overhauls .count) (omega arith) in
+      rw (Sum.added-total φ a n) (omega (arith, due, small .maintained n l, small .powered n l))
+
+  walked-most : (n : ℕ) → n ≤ m → sumOf φ (walked a n) ≤ (10 * n + 1) * largestPayment
+  walked-most zero l = rw (Sum.walked-zero φ a) (omega (arith, small .invested))
+  walked-most (suc n) l = rw (Sum.walked-suc φ a n) (omega (arith, walked-most n (omega arith), added-most n (omega arith)))
+
+-- of an arc at most 11 payments a year
+pub paid-most : (φ : Payment → ℕ) (a : Kept) → KeptFits a → (n : ℕ) → Small φ a n → sumOf φ (paid a n) ≤ n * yearly
+paid-most φ a h zero small = rw (Sum.paid-zero φ a) (omega arith)
+paid-most φ a h (suc n) small = rw (Sum.walked-paid φ a n) (omega (arith, walked-most φ a h (suc n) small (suc n) (omega arith)))
+
+-- units are such a figure
 module _ (a : Kept) (h : KeptFits a) where
   positive : 0 < a .discount
-  positive = omega arith
+  positive = omega (arith, h .low)
 
-  pub overhaul-le : (j : ℕ) → j < a .terms .overhauls .count → rounded (a .discount) (overhaul a j) ≤ largestPayment
+  overhaul-le : (j : ℕ) → j < a .terms .overhauls .count → rounded (a .discount) (overhaul a j) ≤ largestPayment
   unfolding overhaul
   overhaul-le j l =
       let o = a .terms .overhauls in
@@ -65,38 +100,24 @@ module _ (a : Kept) (h : KeptFits a) where
       let amount = h .terms .overhauls .amount j l in
       omega arith
 
-  -- what the first k overhauls cost in year n
-  pub overhauls-le :
-      (n k : ℕ) → k ≤ a .terms .overhauls .count
-      → worth a (forEach k (atAge a n)) ≤ k * largestPayment
-  overhauls-le n k l =
-      forEach-le (rounded (a .discount)) largestPayment k _
-      (λ j m. le-trans (paidIf-le (rounded (a .discount)) (eqb (ageOf a j) n) (overhaul a j)) (overhaul-le j (omega arith)))
-
-  added-le : (n : ℕ) → n < 300 → worth a (added a n) ≤ 10 * largestPayment
-  unfolding overhaulsAt maintenance electricity
-  added-le n l =
+  pub units-small : (n : ℕ) → n ≤ 300 → Small (rounded (a .discount)) a n
+  unfolding investment maintenance electricity
+  units-small n few =
       let t = h .terms in
-      let due = overhauls-le n (a .terms .overhauls .count) (omega arith) in
-      let m = inYear-le (a .discount) (a .terms .maintenance) (a .from) (suc n) positive (t .maintenance) in
-      let e = inYear-le (a .discount) (a .terms .electricity) (a .from) (suc n) positive (t .electricity) in
-      rw (Sum.added-total (rounded (a .discount)) a n) (omega arith)
+      let v = a .terms .investment in
+      record {
+        invested = omega (arith, once-le (a .discount) (v .amount) (v .grow) (a .from) positive (t .investment .grow .high), t .investment .amount);
+        overhauled = overhaul-le;
+        maintained = λ k l. flow-units-le (a .discount) (a .terms .maintenance) (a .from) (suc k) positive (t .maintenance) (omega arith);
+        powered = λ k l. flow-units-le (a .discount) (a .terms .electricity) (a .from) (suc k) positive (t .electricity) (omega arith);
+      }
+
+  -- what the first k overhauls cost in year n
+  pub overhauls-le : (n k : ℕ) → k ≤ a .terms .overhauls .count → worth a (forEach k (atAge a n)) ≤ k * largestPayment
+  overhauls-le n k few = due-most (rounded (a .discount)) a h 0 (units-small 0 (omega arith)) (λ j. eqb (ageOf a j) n) k few
 
   pub walked-le : (n : ℕ) → n ≤ 300 → worth a (walked a n) ≤ (10 * n + 1) * largestPayment
-  walked-le zero l = rw (Sum.walked-zero (rounded (a .discount)) a) investment-le
-    where
-      investment-le : rounded (a .discount) (investment a) ≤ (10 * 0 + 1) * largestPayment
-      investment-le =
-          let v = a .terms .investment in
-          let small = once-le (a .discount) (v .amount) (v .grow) (a .from) positive (h .terms .investment .grow .high) in
-          let amount = h .terms .investment .amount in
-          unfold investment in omega arith
-  walked-le (suc n) l =
-      let before = walked-le n (omega arith) in
-      let more = added-le n (omega arith) in
-      rw (Sum.walked-suc (rounded (a .discount)) a n) (omega arith)
+  walked-le n few = walked-most (rounded (a .discount)) a h n (units-small n few) n (omega arith)
 
-  -- an arc's cost is at most 11 payments a year
   pub paid-le : (n : ℕ) → n ≤ 300 → worth a (paid a n) ≤ n * yearly
-  paid-le zero l = rw (Sum.paid-zero (rounded (a .discount)) a) (omega arith)
-  paid-le (suc n) l = let whole = walked-le (suc n) l in rw (Sum.walked-paid (rounded (a .discount)) a n) (omega arith)
+  paid-le n few = paid-most (rounded (a .discount)) a h n (units-small n few)

@@ -11,7 +11,7 @@
 --     sum-fits      a word that is raised fits in 64 bits
 -- Assumes nothing.
 use Prim.Native.Nat.{ℕ, zero, suc, _+_, _-_, _^_, _≤_, _<_, min}
-use mathlib.Core.Path.{_≡_, refl, ap, sym, _∙_}
+use mathlib.Core.Path.{_≡_, refl, sym, _∙_}
 use mathlib.Core.List.{List, [], _∷_, _++_}
 use native.Mathlib.Nat.{add-zero}
 use native.Mathlib.Omega.{arith}
@@ -29,7 +29,7 @@ use Rattle.costing.specs.Arc.{inYear, investment, maintenance, electricity, age
 use Rattle.costing.specs.declared.Kept.{Kept}
 use Rattle.costing.proofs.SumLaws as Sum
 use Rattle.spreading.specs.Fallen.{inOnly, falling, fallen}
-use Rattle.spreading.specs.Raised.{upTo, RaisedIn, Raised, flowPaid}
+use Rattle.spreading.specs.Raised.{upTo, RaisedIn, Raised, firstOverhauls, flowPaid}
 use Rattle.spreading.specs.Asks.{Below}
 
 -- the years of payments
@@ -170,10 +170,6 @@ module _ (last : ℕ) (φ : Payment → ℕ) where
     flow-late l n h y =
         let same : 0 + n ≡ n = omega arith in
         omega (arith, rw same at (flow-more 0 (omega arith) n y), Sum.forEach-zero (falling (upTo last φ) y) (λ k. inYear w t (suc k) ∷ []))
-
--- what of the first j overhauls is paid in an arc of n years
-abbrev pub firstOverhauls : Kept → (n j : ℕ) → List Payment
-firstOverhauls a n j = forEach j (λ i. paidIf (ltb (ageOf a i) n) (overhaul a i))
 
 -- an arc, part by part
 module _ (φ : Payment → ℕ) (old : List ℕ) where

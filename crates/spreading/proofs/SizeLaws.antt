@@ -1,12 +1,10 @@
 -- Why 64 bits suffice for the words. In order:
---     Small      a figure that is at most `largestPayment` of each payment of an arc
---     flow-most, first-most, paid-most      how much of such a figure the parts of an arc add, and the whole of it: `yearly` a year
+--     flow-most, first-most      how much the parts of an arc add of a figure that is at most `largestPayment` of each payment (`Small`)
 --     room-after, room-opened, room-overhauled, room-maintained      words that leave room still do behind payments, and behind each part of an arc
---     flow-units-le, units-small      units are such a figure
 --     flow-cents-zero, flow-cents-suc, flow-cents-le      a flow's running cents: at the start, one year in service on, and up to year 15
 --     once-money-le, flow-money-le, cents-small      money of the year up to year 15 is such a figure
 -- Assumes nothing.
-use Prim.Native.Nat.{ℕ, zero, suc, _+_, _*_, _≤_, _<_}
+use Prim.Native.Nat.{ℕ, suc, _+_, _*_, _≤_, _<_}
 use mathlib.Core.Path.{_≡_, refl, ap, _∙_}
 use mathlib.Core.List.{List, [], _∷_, _++_}
 use native.Mathlib.Nat.{le-trans}
@@ -20,28 +18,19 @@ use Rattle.base.proofs.ListsLaws.{sumOf-append, sumOf-one}
 use Rattle.sheet.specs.declared.Flow.{Flow}
 use Rattle.checking.specs.Fit.{FlowFits}
 use Rattle.steps.specs.Step.{repeated}
-use Rattle.steps.specs.Payment.{Payment, year, rounded, once}
+use Rattle.steps.specs.Payment.{Payment, year, once}
 use Rattle.steps.specs.Fit.{largestPayment, Rates}
-use Rattle.steps.proofs.RoomLaws.{once-le}
-use Rattle.costing.specs.Arc.{inYear, investment, maintenance, electricity, ageOf, overhaul, forEach, overhaulsBelow, paid}
-use Rattle.costing.specs.Fit.{yearly, KeptFits}
+use Rattle.costing.specs.Arc.{inYear, investment, maintenance, electricity, ageOf, overhaul, overhaulsBelow}
+use Rattle.costing.specs.Fit.{yearly, KeptFits, Small}
 use Rattle.costing.specs.declared.Kept.{Kept}
-use Rattle.costing.proofs.SumLaws as Sum
-use Rattle.costing.proofs.SizeLaws.{inYear-le, paidIf-le, forEach-le, overhaul-le}
+use Rattle.costing.proofs.SizeLaws.{forEach-le, due-most}
 use Rattle.nominal.specs.Nominal.{nominalInService, cents, lastNominal}
 use Rattle.nominal.specs.Fit.{largestCents}
 use Rattle.nominal.proofs.SizeLaws.{cents-le}
-use Rattle.spreading.specs.Raised.{Raised, flowPaid, inMoney}
+use Rattle.spreading.specs.Raised.{Raised, firstOverhauls, flowPaid, inMoney}
 use Rattle.spreading.specs.Asks.{Below, beforeArc, Room, MoneyFits, OnceFits}
 use Rattle.spreading.specs.declared.Money.{Money}
-use Rattle.spreading.proofs.RaisedLaws.{flow-year, firstOverhauls, raised-both, below-raised, upTo-in, upTo-out}
-
--- a figure is at most `largestPayment` of each payment of an arc of n years
-pub record Small (φ : Payment → ℕ) (a : Kept) (n : ℕ) : Type 0 where
-  pub invested : φ (investment a) ≤ largestPayment
-  pub overhauled : (j : ℕ) → j < a .terms .overhauls .count → φ (overhaul a j) ≤ largestPayment
-  pub maintained : (k : ℕ) → k < n → φ (maintenance a (suc k)) ≤ largestPayment
-  pub powered : (k : ℕ) → k < n → φ (electricity a (suc k)) ≤ largestPayment
+use Rattle.spreading.proofs.RaisedLaws.{flow-year, raised-both, below-raised, upTo-in, upTo-out}
 
 module _ (φ : Payment → ℕ) where
   pub flow-most : (w : Flow) (t n : ℕ) → ((k : ℕ) → k < n → φ (inYear w t (suc k)) ≤ largestPayment) → sumOf φ (flowPaid w t n) ≤ n * largestPayment
@@ -51,10 +40,7 @@ module _ (φ : Payment → ℕ) where
     pub first-most : (years j : ℕ) → j ≤ a .terms .overhauls .count → sumOf φ (firstOverhauls a years j) ≤ 8 * largestPayment
     first-most years j few =
         let count = ok .terms .overhauls .count in
-        let all =
-        forEach-le φ largestPayment j _
-        (λ i l. le-trans (paidIf-le φ (ltb (ageOf a i) years) (overhaul a i)) (small .overhauled i (omega arith))) in
-        omega (arith, all)
+        omega (arith, due-most φ a ok n small (λ i. ltb (ageOf a i) years) j few)
 
     overhauls-most : (years : ℕ) → sumOf φ (overhaulsBelow a years) ≤ 8 * largestPayment
     unfolding overhaulsBelow
@@ -62,20 +48,6 @@ module _ (φ : Payment → ℕ) where
 
     maintained-most : sumOf φ (flowPaid (a .terms .maintenance) (a .from) n) ≤ n * largestPayment
     maintained-most = flow-most (a .terms .maintenance) (a .from) n (λ k l. unfold maintenance in small .maintained k l)
-
-  -- a year of an arc adds at most `yearly`
-  pub paid-most : (a : Kept) → KeptFits a → (n : ℕ) → Small φ a n → sumOf φ (paid a n) ≤ n * yearly
-  unfolding maintenance electricity
-  paid-most a ok zero small = rw (Sum.paid-zero φ a) (omega arith)
-  paid-most a ok (suc n) small =
-      rw (Sum.paid-parts φ a n)
-      (omega (
-        arith,
-        small .invested,
-        overhauls-most a ok (suc n) small (suc n),
-        maintained-most a ok (suc n) small,
-        flow-most (a .terms .electricity) (a .from) (suc n) (small .powered),
-      ))
 
   -- words that leave room still do behind payments that add no more than that
   pub room-after :
@@ -115,23 +87,6 @@ module _ (φ : Payment → ℕ) (a : Kept) (ok : KeptFits a) (n : ℕ) (few : n 
         let m = flowPaid (a .terms .maintenance) (a .from) n in
         parts-room (9 + n) three (opened ++ m) (omega arith) same (raised-both φ old two three opened m (raised-both φ old one two _ _ h i) j)
         (omega (arith, sumOf-append φ opened m, opened-most, maintained-most φ a ok n small))
-
--- units
-pub flow-units-le :
-    (discount : ℕ) (w : Flow) (t k : ℕ) → 0 < discount → FlowFits discount w → k ≤ 300 → rounded discount (inYear w t k) ≤ largestPayment
-flow-units-le discount w t k positive fits few = omega (arith, inYear-le discount w t k positive fits, fits .amount)
-
-pub units-small : (a : Kept) → KeptFits a → (n : ℕ) → n ≤ 300 → Small (rounded (a .discount)) a n
-unfolding investment maintenance electricity
-units-small a ok n few =
-    let low = ok .low in
-    let i = a .terms .investment in
-    record {
-      invested = omega (arith, once-le (a .discount) (i .amount) (i .grow) (a .from) (omega arith) (ok .terms .investment .grow .high), ok .terms .investment .amount);
-      overhauled = overhaul-le a ok;
-      maintained = λ k l. flow-units-le (a .discount) (a .terms .maintenance) (a .from) (suc k) (omega arith) (ok .terms .maintenance) (omega arith);
-      powered = λ k l. flow-units-le (a .discount) (a .terms .electricity) (a .from) (suc k) (omega arith) (ok .terms .electricity) (omega arith);
-    }
 
 -- the factors of a payment, and a flow's running cents: at the start, one year in service on, and up to year 15
 once-rates : (amount grow y : ℕ) → grow ≤ 1_200_000 → Rates 1_200_000 (once amount grow y)

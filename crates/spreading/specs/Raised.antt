@@ -3,11 +3,12 @@ use Prim.Native.Nat.{ℕ, suc, _+_}
 use mathlib.Core.Path.{_≡_}
 use mathlib.Core.List.{List, [], _∷_}
 use mathlib.Core.Bool.{cond}
-use lib.Dec.{leb}
+use lib.Dec.{leb, ltb}
 use lib.ListN.{getD}
 use Rattle.sheet.specs.declared.Flow.{Flow}
 use Rattle.steps.specs.Payment.{Payment, year}
-use Rattle.costing.specs.Arc.{inYear, forEach}
+use Rattle.costing.specs.Arc.{inYear, ageOf, overhaul, forEach, paidIf}
+use Rattle.costing.specs.declared.Kept.{Kept}
 use Rattle.nominal.specs.Nominal.{cents}
 use Rattle.spreading.specs.Fallen.{inOnly, fallen}
 use Rattle.spreading.specs.declared.Money.{Money}
@@ -27,6 +28,10 @@ upTo last φ q = cond (leb (year q) last) (φ q) 0
 -- money of the year, as the code counts it
 abbrev pub inMoney : Money → Payment → ℕ
 inMoney m = upTo (m .last) (cents (m .general))
+
+-- what of the first j overhauls is paid in an arc of n years
+abbrev pub firstOverhauls : Kept → (n j : ℕ) → List Payment
+firstOverhauls a n j = forEach j (λ i. paidIf (ltb (ageOf a i) n) (overhaul a i))
 
 -- what a flow pays in its first n years of service, which began in year t
 abbrev pub flowPaid : Flow → (t n : ℕ) → List Payment

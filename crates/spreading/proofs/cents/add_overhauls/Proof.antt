@@ -5,9 +5,9 @@ use native.Mathlib.Omega.{arith}
 use lib.ListN.{length}
 use denote.Ref.{now}
 use Rattle.steps.specs.Fit.{largestPayment}
-use Rattle.spreading.specs.Raised.{Raised, inMoney}
+use Rattle.spreading.specs.Raised.{Raised, firstOverhauls, inMoney}
 use Rattle.spreading.specs.Asks.{beforePayment, beforeArc}
-use Rattle.spreading.proofs.RaisedLaws.{firstOverhauls, overhauls-none, overhauls-next, overhauls-all}
+use Rattle.spreading.proofs.RaisedLaws.{overhauls-none, overhauls-next, overhauls-all}
 use Rattle.spreading.proofs.SizeLaws.{cents-small, first-most, room-after}
 use Rattle.spreading.proofs.cents.add_overhauls.Statement.{statement}
 use Rattle.spreading.proofs.cents.add_overhauls.Tie as tie

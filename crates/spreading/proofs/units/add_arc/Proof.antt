@@ -10,10 +10,11 @@ use Rattle.checking.specs.Fit.{FlowFits}
 use Rattle.steps.specs.Payment.{rounded, once}
 use Rattle.steps.proofs.RoomLaws.{amount-fits}
 use Rattle.costing.specs.Arc.{investment}
+use Rattle.costing.proofs.SizeLaws.{units-small}
 use Rattle.spreading.specs.Raised.{Raised, flowPaid}
 use Rattle.spreading.specs.Asks.{beforeArc, Room, FlowAsks}
 use Rattle.spreading.proofs.RaisedLaws.{investment-year, raised-one, arc-none, arc-raised, sum-fits}
-use Rattle.spreading.proofs.SizeLaws.{units-small, room-opened, room-overhauled, room-maintained}
+use Rattle.spreading.proofs.SizeLaws.{room-opened, room-overhauled, room-maintained}
 use Rattle.spreading.proofs.units.add_arc.Statement.{statement}
 use Rattle.spreading.proofs.units.add_arc.Tie as tie
 

@@ -9,12 +9,12 @@ use Rattle.steps.specs.Payment.{rounded}
 use Rattle.steps.specs.Fit.{largestPayment}
 use Rattle.steps.proofs.RoomLaws.{amount-fits}
 use Rattle.costing.specs.Arc.{inYear}
-use Rattle.costing.proofs.SizeLaws.{inYear-fits}
+use Rattle.costing.proofs.SizeLaws.{inYear-fits, flow-units-le}
 use Rattle.costing.proofs.WalkLaws.{inYear-zero, inYear-suc}
 use Rattle.spreading.specs.Raised.{Raised, flowPaid}
 use Rattle.spreading.specs.Asks.{beforeArc}
 use Rattle.spreading.proofs.RaisedLaws.{flow-none, flow-next, below-raised, sum-fits}
-use Rattle.spreading.proofs.SizeLaws.{flow-most, flow-units-le}
+use Rattle.spreading.proofs.SizeLaws.{flow-most}
 use Rattle.spreading.proofs.units.add_flow.Statement.{statement}
 use Rattle.spreading.proofs.units.add_flow.Tie as tie
 

@@ -9,10 +9,11 @@ use Rattle.steps.specs.Payment.{rounded, once}
 use Rattle.steps.specs.Fit.{largestPayment}
 use Rattle.steps.proofs.RoomLaws.{amount-fits}
 use Rattle.costing.specs.Arc.{paidIf}
-use Rattle.spreading.specs.Raised.{Raised}
+use Rattle.costing.proofs.SizeLaws.{units-small}
+use Rattle.spreading.specs.Raised.{Raised, firstOverhauls}
 use Rattle.spreading.specs.Asks.{beforePayment, beforeArc}
-use Rattle.spreading.proofs.RaisedLaws.{firstOverhauls, overhauls-none, overhauls-next, overhauls-all}
-use Rattle.spreading.proofs.SizeLaws.{units-small, first-most, room-after}
+use Rattle.spreading.proofs.RaisedLaws.{overhauls-none, overhauls-next, overhauls-all}
+use Rattle.spreading.proofs.SizeLaws.{first-most, room-after}
 use Rattle.spreading.proofs.units.add_overhauls.Statement.{statement}
 use Rattle.spreading.proofs.units.add_overhauls.Tie as tie
 
