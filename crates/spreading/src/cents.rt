@@ -78,8 +78,8 @@ fn add_overhauls(words: &mut [u64], kept: Kept, money: Money, years: u64)
     }
 }
 
-// Adds what a flow pays in its first years of service, which began in a year. The walk stops at the last year: behind year 15 the cents
-// would leave 64 bits.
+// Adds what a flow pays in its first years of service, which began in a year. The walk stops at the last year: later cents have no word, and in
+// the end they would not fit in 64 bits.
 fn add_flow(words: &mut [u64], money: Money, flow: Flow, from: u64, years: u64)
     requires { ⌜ MoneyAsks (now words) money beforeArc × FlowPasses flow ⌝ }
     ensures { λ _. ⌜ Raised (inMoney money) (now (words .entry)) (now (words .exit)) (flowPaid flow from years) ⌝ }
