@@ -7,9 +7,9 @@ abbrev pub mostCents : ℕ → ℕ
 mostCents zero = 100_000_000_000
 mostCents (suc k) = (126 * mostCents k + 346) / 100
 
--- above `mostCents 15`, which is 3,203,009,131,581
+-- what that is after 15 years
 abbrev pub largestCents : ℕ
-largestCents = 4_000_000_000_000
+largestCents = 3_203_009_131_581
 
 -- a step: the factors, and an amount that leaves room
 pub record CentsFit (general grow a : ℕ) : Type 0 where
