@@ -20,6 +20,9 @@ static const struct {
     {{"equal totals", 30, 12, 2, 0, 0}, 1500},
 };
 
+/* The counts of words: none; one too few, enough, and one more; and around twice as many as are enough. */
+static const size_t word_counts[] = {0, 300, 301, 302, 601, 602};
+
 /* A copy on the heap that ends where the bytes do. */
 static struct bytes copied(const uint8_t *bytes, size_t length)
 {
@@ -59,26 +62,30 @@ static void compare_prices(struct random *random, struct bytes sheet, const uint
     }
 }
 
+/* Plans with each count of words. */
+static void compare_word_counts(struct bytes sheet, size_t plan_length)
+{
+    for (size_t k = 0; k < COUNT(word_counts); k++) {
+        struct call call = planning_of(sheet, plan_length, word_counts[k]);
+
+        compare(&call, NULL);
+    }
+}
+
 /* Plans with buffers long enough, and with shorter ones; the length of the plan, or 0 if there is none. */
 static size_t compare_plans(struct bytes sheet, uint8_t *plan)
 {
     size_t years = (size_t)get16(sheet.at + HORIZON), length;
-    struct call ample = planning_of(sheet, NIMOVALSA_PLAN_BYTES(years), NIMOVALSA_PLAN_WORDS), call = ample;
+    struct call ample = planning_of(sheet, NIMOVALSA_PLAN_BYTES(years), NIMOVALSA_PLAN_WORDS);
     uint64_t answer = compare(&ample, plan);
 
-    call.words_count = NIMOVALSA_PLAN_WORDS - 1;
-    compare(&call, NULL);
-    call.words_count = 0;
-    compare(&call, NULL);
+    compare_word_counts(sheet, ample.plan_length);
     if (nimovalsa_number(answer) != 0)
         return 0;
 
     length = NIMOVALSA_PLAN_BYTES(get16(plan + REPLACEMENTS));
-    call = ample;
-    call.plan_length = length;
-    compare(&call, NULL);
-    call.plan_length = length - 1;
-    compare(&call, NULL);
+    compare_word_counts(sheet, length);
+    compare_word_counts(sheet, length - 1);
     if (compare_price(sheet, plan, length) != answer)
         stop("the plan is not priced at its total");
     return length;

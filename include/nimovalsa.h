@@ -204,14 +204,14 @@ uint64_t nimovalsa_price(const uint8_t *sheet, size_t sheet_length,
  *
  * The words are written for each year y from 0 to T:
  *
- *   words[y]        the least total of replacements alone from year y to T;
- *                   0 for y = T; 2^64 - 1 if no replacements lead to T
- *   words[301 + y]  the end year of the first of those replacements, chosen
- *                   as above; 0 for y = T and if there are none
+ *   words[y]  the least total of replacements alone from year y to T; 0 for
+ *             y = T; 2^64 - 1 if no replacements lead to T
  *
- * All other words, and the plan's bytes behind the first 19 + 2m, keep their
- * content. A plan_length of 19 + 2T is enough for every chain. What the buffers
- * hold before the call does not matter, and nothing is kept between calls.
+ * All other words, those from T + 1 on, are not touched, and neither are the
+ * plan's bytes behind the first 19 + 2m. NIMOVALSA_PLAN_WORDS words are enough
+ * for every sheet, and a plan_length of 19 + 2T for every chain. What the
+ * buffers hold before the call does not matter, and nothing is kept between
+ * calls.
  *
  * Duties of the caller, which the call cannot check:
  *   - sheet points to sheet_length readable bytes and plan to plan_length
@@ -222,10 +222,10 @@ uint64_t nimovalsa_price(const uint8_t *sheet, size_t sheet_length,
  *   - nothing else reads or changes plan and words during the call, and nothing
  *     changes the sheet.
  *   - NIMOVALSA_PLAN_STACK bytes of stack are free. The call was measured to
- *     use 33,936 bytes; tests/c measures it again and fails above the figure
+ *     use 36,368 bytes; tests/c measures it again and fails above the figure
  *     here. It is not proved.
  */
-#define NIMOVALSA_PLAN_WORDS 602
+#define NIMOVALSA_PLAN_WORDS 301
 #define NIMOVALSA_PLAN_STACK 65536
 
 uint64_t nimovalsa_plan(const uint8_t *sheet, size_t sheet_length,

@@ -107,7 +107,7 @@ enum { MOST_YEARS = 300, LONGEST_LENT_PLAN = 1024, MOST_LENT_WORDS = 1024 };
 /* The words of the years from 0 to a sheet's horizon. */
 struct tails {
     unsigned horizon;
-    uint64_t totals[MOST_YEARS + 1], first_ends[MOST_YEARS + 1];
+    uint64_t totals[MOST_YEARS + 1];
 };
 
 /* What a planning call answers and writes. */
@@ -129,6 +129,12 @@ void start_lending(void);
  * begins, and with each beginning where an unreadable page ends. */
 void expect_outcome(struct bytes sheet, struct lent lent,
                     struct outcome outcome);
+
+/* The outcome, one that has words, with sheet, plan and the words from 0 to T
+ * ending where an unreadable page begins. The other words are lent too, but lie
+ * on that page. */
+void expect_outcome_of_years(struct bytes sheet, struct lent lent,
+                             struct outcome outcome);
 
 /* The outcome with sheet and plan at these distances from their page. */
 void expect_outcome_at(struct bytes sheet, struct lent lent,
@@ -190,6 +196,9 @@ void test_pricing(void); /* pricing, by the plan's bytes */
 void test_planning(void);
 void test_budgets(void);   /* budgeting, by what the lists hold */
 void test_budgeting(void); /* budgeting, by its refusals and buffers */
+
+/* Planning, by the recorded plans of the file at this path. */
+void test_recorded(const char *path);
 
 /* On a sheet where checking answers this, the other calls answer the same if
  * it is a refusal, whatever the arc, plan or buffers. On an accepted sheet the

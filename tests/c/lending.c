@@ -9,9 +9,6 @@
 
 #include <string.h>
 
-/* Where the first ends begin among the words. */
-enum { FIRST_ENDS = 301 };
-
 static struct room plan_room, words_room;
 
 /* What the rooms are to hold after the call. */
@@ -64,11 +61,6 @@ static void lend(struct lent lent, struct place place)
     now.words_count = lent.words_count;
 }
 
-static void put_word(struct place place, size_t word, uint64_t value)
-{
-    memcpy(words_after + place.words + 8 * word, &value, sizeof value);
-}
-
 /* Writes into what is expected; the rooms are left. */
 static void write_expected(struct place place, struct outcome outcome)
 {
@@ -76,10 +68,9 @@ static void write_expected(struct place place, struct outcome outcome)
 
     if (outcome.plan.length > 0)
         memcpy(plan_after + place.plan, outcome.plan.at, outcome.plan.length);
-    for (unsigned year = 0; tails != NULL && year <= tails->horizon; year++) {
-        put_word(place, year, tails->totals[year]);
-        put_word(place, FIRST_ENDS + year, tails->first_ends[year]);
-    }
+    if (tails != NULL)
+        memcpy(words_after + place.words, tails->totals,
+               8 * (tails->horizon + 1));
 }
 
 static void compare_rooms(void)
@@ -90,13 +81,17 @@ static void compare_rooms(void)
                 "comparison of the words and what is around them");
 }
 
+static struct place at_end(struct lent lent)
+{
+    return (struct place){plan_room.bytes - lent.plan_length,
+                          words_room.bytes - 8 * lent.words_count};
+}
+
 void expect_outcome(struct bytes sheet, struct lent lent,
                     struct outcome outcome)
 {
     struct input input = {.sheet = sheet};
-    struct place start = {0, 0};
-    struct place end = {plan_room.bytes - lent.plan_length,
-                        words_room.bytes - 8 * lent.words_count};
+    struct place start = {0, 0}, end = at_end(lent);
 
     lend(lent, end);
     write_expected(end, outcome);
@@ -106,6 +101,20 @@ void expect_outcome(struct bytes sheet, struct lent lent,
     lend(lent, start);
     write_expected(start, outcome);
     expect_answer_at_start(&planning, input, outcome.answer);
+    compare_rooms();
+}
+
+void expect_outcome_of_years(struct bytes sheet, struct lent lent,
+                             struct outcome outcome)
+{
+    struct lent there = {lent.plan_length, outcome.tails->horizon + 1};
+    struct place end = at_end(there);
+
+    lend(there, end);
+    now.words_count = lent.words_count;
+    write_expected(end, outcome);
+    expect_answer_at_end(&planning, (struct input){.sheet = sheet},
+                         outcome.answer);
     compare_rooms();
 }
 

@@ -30,7 +30,7 @@ static struct outcome all_written(struct bytes whole, uint64_t total)
     return (struct outcome){PRICED(total), &tails, whole};
 }
 
-/* Takes a first replacement from a year to an end if none was cheaper. */
+/* Takes a first replacement from a year to an end if it is cheaper. */
 static void try_end(unsigned year, unsigned end)
 {
     uint64_t cost = nimovalsa_cost(sheet, sizeof sheet, 2, year, end);
@@ -39,10 +39,8 @@ static void try_end(unsigned year, unsigned end)
     if (nimovalsa_number(cost) != 0 || tails.totals[end] == UINT64_MAX)
         return;
     total = nimovalsa_total(cost) + tails.totals[end];
-    if (total <= tails.totals[year]) {
+    if (total < tails.totals[year])
         tails.totals[year] = total;
-        tails.first_ends[year] = end;
-    }
 }
 
 /* The words of this sheet by their definition. The costs are those that
@@ -52,10 +50,9 @@ static void compute_tails(void)
     unsigned horizon = sheet[HORIZON] + 256u * sheet[HORIZON + 1];
 
     tails.horizon = horizon;
-    tails.totals[horizon] = tails.first_ends[horizon] = 0;
+    tails.totals[horizon] = 0;
     for (unsigned year = horizon; year-- > 0;) {
         tails.totals[year] = UINT64_MAX;
-        tails.first_ends[year] = 0;
         for (unsigned end = year + 1; end <= horizon; end++)
             try_end(year, end);
     }
@@ -74,11 +71,11 @@ void expect_planning(struct bytes on, uint64_t answer)
     uint64_t refused = answer == ACCEPTED ? REFUSED_WORDS : answer;
 
     expect_outcome(on, (struct lent){0, 0}, left(refused));
-    expect_outcome(on, (struct lent){NIMOVALSA_PLAN_BYTES(300), 601},
+    expect_outcome(on, (struct lent){NIMOVALSA_PLAN_BYTES(300), 300},
                    left(refused));
     if (answer != ACCEPTED) {
-        expect_outcome(on, (struct lent){0, 602}, left(answer));
-        expect_outcome(on, (struct lent){NIMOVALSA_PLAN_BYTES(300), 602},
+        expect_outcome(on, (struct lent){0, 301}, left(answer));
+        expect_outcome(on, (struct lent){NIMOVALSA_PLAN_BYTES(300), 301},
                        left(answer));
     }
 }
@@ -108,21 +105,27 @@ static void test_plan_lengths(const char *name, struct outcome full)
     }
 }
 
-/* Around the limit, with a plan buffer that is long enough and with none. */
+/* The outcome if the words are enough, else refusal 10. */
+static void test_word_count(struct lent lent, struct outcome enough)
+{
+    expect_outcome(this_sheet, lent,
+                   lent.words_count < NIMOVALSA_PLAN_WORDS ? left(REFUSED_WORDS)
+                                                           : enough);
+}
+
+static const size_t word_counts[] = {
+    0, 1, 300, 301, 302, 600, 601, 602, 603, 700, MOST_LENT_WORDS};
+
+/* With a plan buffer that is long enough and with none. */
 static void test_word_counts(const char *name, struct outcome full)
 {
-    static const size_t counts[] = {
-        0, 1, 300, 301, 302, 600, 601, 602, 603, 700, MOST_LENT_WORDS};
+    for (size_t n = 0; n < COUNT(word_counts); n++) {
+        size_t count = word_counts[n];
 
-    for (size_t n = 0; n < COUNT(counts); n++) {
-        int enough = counts[n] >= NIMOVALSA_PLAN_WORDS;
-
-        name_case("%s, %zu words", name, counts[n]);
-        expect_outcome(this_sheet, (struct lent){full.plan.length, counts[n]},
-                       enough ? full : left(REFUSED_WORDS));
-        expect_outcome(this_sheet, (struct lent){0, counts[n]},
-                       enough ? words_written(REFUSED_SHORT_PLAN)
-                              : left(REFUSED_WORDS));
+        name_case("%s, %zu words", name, count);
+        test_word_count((struct lent){full.plan.length, count}, full);
+        test_word_count((struct lent){0, count},
+                        words_written(REFUSED_SHORT_PLAN));
     }
 }
 
@@ -194,6 +197,27 @@ static void make_unequal_lives_sheet(uint8_t *at)
     put_overhaul(record, 0, 2, 500);
 }
 
+/* Replace for 1 to 100 years, at 7 and 1 for each year. */
+static void put_hundred_year_sheet(uint8_t *at, unsigned horizon)
+{
+    uint8_t *record = record_of(at, 2);
+
+    put_head(at, horizon, 0);
+    put_lives(record, 1, 100);
+    put32(record + INVESTMENT, 7);
+    put32(record + MAINTENANCE, 1);
+}
+
+static void make_one_year_sheet(uint8_t *at)
+{
+    put_hundred_year_sheet(at, 1);
+}
+
+static void make_odd_years_sheet(uint8_t *at)
+{
+    put_hundred_year_sheet(at, 299);
+}
+
 struct plan_case {
     make_sheet *make;
     const char *name;
@@ -229,6 +253,8 @@ static const struct plan_case plan_cases[] = {
     {make_renovated_sheet, "renovated", {1, 10, 0, {0}}, 120000},
     {make_unequal_lives_sheet, "unequal lives", {0, 0, 3, {3, 5, 7}}, 28194900},
     {make_either_sheet, "either", {0, 1, 3, {4, 7, 10}}, 80000},
+    {make_one_year_sheet, "one year", {0, 0, 1, {1}}, 80000},
+    {make_odd_years_sheet, "299 years", {0, 0, 3, {100, 200, 299}}, 3200000},
 };
 
 /* Their places in the table. */
@@ -284,7 +310,7 @@ static void test_largest_total(void)
     prepare(make_largest_sheet);
     name_case("largest total");
     expect_outcome(
-        this_sheet, (struct lent){NIMOVALSA_PLAN_BYTES(300), 602},
+        this_sheet, (struct lent){NIMOVALSA_PLAN_BYTES(300), 301},
         all_written(put_even_plan(plan, 1, 300), UINT64_C(9000000000000000)));
 }
 
@@ -313,6 +339,14 @@ static void make_even_lives_sheet(uint8_t *at)
     put_lives(record_of(at, 2), 100, 100);
 }
 
+/* Every word is written, the last one for the last year. */
+static void make_uneven_lives_sheet(uint8_t *at)
+{
+    put_head(at, 300, 0);
+    put_lives(record_of(at, 2), 7, 7);
+    put32(record_of(at, 2) + INVESTMENT, 1);
+}
+
 struct no_chain_case {
     make_sheet *make;
     const char *name;
@@ -324,28 +358,30 @@ static const struct no_chain_case no_chain_cases[] = {
     {make_gap_sheet, "gap"},
     {make_early_end_sheet, "early end"},
     {make_even_lives_sheet, "even lives"},
+    {make_uneven_lives_sheet, "uneven lives"},
 };
 
 /* With any plan buffer, an empty one included: 11 comes before 12, and 10
  * before both. */
-static void test_no_chain(void)
+static void test_no_chain_of(const struct no_chain_case *of)
 {
     static const size_t lengths[] = {0,  1,   18,  19,  20,
                                      21, 618, 619, 620, LONGEST_LENT_PLAN};
 
-    for (size_t n = 0; n < COUNT(no_chain_cases); n++) {
-        prepare(no_chain_cases[n].make);
-        for (size_t k = 0; k < COUNT(lengths); k++) {
-            name_case("%s, plan buffer of %zu bytes", no_chain_cases[n].name,
-                      lengths[k]);
-            expect_outcome(this_sheet, (struct lent){lengths[k], 602},
-                           words_written(REFUSED_NO_CHAIN));
-            expect_outcome(this_sheet, (struct lent){lengths[k], 700},
-                           words_written(REFUSED_NO_CHAIN));
-            expect_outcome(this_sheet, (struct lent){lengths[k], 601},
-                           left(REFUSED_WORDS));
+    prepare(of->make);
+    for (size_t k = 0; k < COUNT(lengths); k++)
+        for (size_t n = 0; n < COUNT(word_counts); n++) {
+            name_case("%s, plan buffer of %zu bytes, %zu words", of->name,
+                      lengths[k], word_counts[n]);
+            test_word_count((struct lent){lengths[k], word_counts[n]},
+                            words_written(REFUSED_NO_CHAIN));
         }
-    }
+}
+
+static void test_no_chain(void)
+{
+    for (size_t n = 0; n < COUNT(no_chain_cases); n++)
+        test_no_chain_of(&no_chain_cases[n]);
 }
 
 /* ---- the words ---- */
@@ -354,62 +390,122 @@ static void test_no_chain(void)
 static void test_words_of_case_9(void)
 {
     static const struct tails by_hand = {
-        5,
-        {UINT64_MAX, 0, 0, UINT64_MAX, UINT64_MAX, 0},
-        {0, 5, 5, 0, 0, 0},
-    };
+        5, {UINT64_MAX, 0, 0, UINT64_MAX, UINT64_MAX, 0}};
 
     make_case_9_sheet(sheet);
     name_case("words of case 9");
-    expect_outcome(this_sheet, (struct lent){19, 602},
+    expect_outcome(this_sheet, (struct lent){19, 301},
                    (struct outcome){REFUSED_NO_CHAIN, &by_hand, {NULL, 0}});
 }
 
-/* One year costs 11, two 12, three 28: from year 1, ends 2 and 4 cost what 3
- * and 4 cost. */
+/* One year costs 11, two 12, three 28. */
 static void test_words_of_case_12(void)
 {
-    static const struct tails by_hand = {
-        4,
-        {240000, 230000, 120000, 110000, 0},
-        {2, 3, 4, 4, 0},
-    };
+    static const struct tails by_hand = {4,
+                                         {240000, 230000, 120000, 110000, 0}};
     static const struct chain chain = {0, 0, 2, {2, 4}};
     struct bytes whole = put_plan(plan, &chain);
 
     make_case_12_sheet(sheet);
     put(plan + PLAN_TOTAL, 8, 240000);
     name_case("words of case 12");
-    expect_outcome(this_sheet, (struct lent){whole.length, 602},
+    expect_outcome(this_sheet, (struct lent){whole.length, 301},
                    (struct outcome){PRICED(240000), &by_hand, whole});
 }
 
 /* Replace alone cannot fill any of the years; the chain has none. */
 static void test_words_without_replacements(void)
 {
-    static const struct tails by_hand = {
-        2, {UINT64_MAX, UINT64_MAX, 0}, {0, 0, 0}};
+    static const struct tails by_hand = {2, {UINT64_MAX, UINT64_MAX, 0}};
     static const struct chain chain = {2, 2, 0, {0}};
 
     put_head(sheet, 2, 0);
     put_lives(record_of(sheet, 0), 2, 2);
     name_case("words without replacements");
     expect_outcome(
-        this_sheet, (struct lent){19, 602},
+        this_sheet, (struct lent){19, 301},
         (struct outcome){ACCEPTED, &by_hand,
                          all_written(put_plan(plan, &chain), 0).plan});
 }
 
-/* Every count of words up to three beyond the least that is accepted. */
+/* Every count of words, to beyond twice the least that is accepted: on 0, 12
+ * and 11. */
 static void test_every_word_count(void)
 {
     struct outcome full = outcome_of(&plan_cases[CASE_12]);
 
-    for (size_t count = 0; count <= NIMOVALSA_PLAN_WORDS + 3; count++) {
+    for (size_t count = 0; count <= 605; count++) {
         name_case("case 12, %zu words", count);
-        expect_outcome(this_sheet, (struct lent){full.plan.length, count},
-                       count < NIMOVALSA_PLAN_WORDS ? left(REFUSED_WORDS)
-                                                    : full);
+        test_word_count((struct lent){full.plan.length, count}, full);
+        test_word_count((struct lent){full.plan.length - 1, count},
+                        words_written(REFUSED_SHORT_PLAN));
+    }
+    prepare(make_case_9_sheet);
+    for (size_t count = 0; count <= 605; count++) {
+        name_case("case 9, %zu words", count);
+        test_word_count((struct lent){full.plan.length, count},
+                        words_written(REFUSED_NO_CHAIN));
+    }
+}
+
+/* ---- every horizon, by hand ---- */
+
+/* Also with the words from T + 1 on out of reach. */
+static void expect_in_words(size_t plan_length, struct outcome outcome)
+{
+    expect_outcome(this_sheet, (struct lent){plan_length, 301}, outcome);
+    expect_outcome_of_years(this_sheet, (struct lent){plan_length, 301},
+                            outcome);
+    expect_outcome_of_years(this_sheet, (struct lent){plan_length, 602},
+                            outcome);
+}
+
+static void expect_full_and_short(struct outcome full)
+{
+    expect_in_words(full.plan.length, full);
+    expect_in_words(full.plan.length - 1, words_written(REFUSED_SHORT_PLAN));
+}
+
+/* The fewest replacements cost the least; the last one is the short one. */
+static void test_hundred_years(unsigned horizon)
+{
+    struct chain chain = {0, 0, 0, {0}};
+
+    name_case("replace for up to 100 years, T %u", horizon);
+    put_hundred_year_sheet(sheet, horizon);
+    tails.horizon = horizon;
+    for (unsigned years = 0; years <= horizon; years++)
+        tails.totals[horizon - years] =
+            UINT64_C(10000) * (7 * ((years + 99) / 100) + years);
+    for (unsigned end = 100; end < horizon; end += 100)
+        chain.ends[chain.m++] = (uint16_t)end;
+    chain.ends[chain.m++] = (uint16_t)horizon;
+    expect_full_and_short(all_written(put_plan(plan, &chain), tails.totals[0]));
+}
+
+/* Replace for 2 years, at 3: no chain if T is odd. */
+static void test_two_years(unsigned horizon)
+{
+    name_case("replace for 2 years, T %u", horizon);
+    put_head(sheet, horizon, 0);
+    put_lives(record_of(sheet, 2), 2, 2);
+    put32(record_of(sheet, 2) + INVESTMENT, 3);
+    tails.horizon = horizon;
+    for (unsigned years = 0; years <= horizon; years++)
+        tails.totals[horizon - years] =
+            years % 2 == 0 ? UINT64_C(10000) * 3 * (years / 2) : UINT64_MAX;
+    if (horizon % 2 == 0)
+        expect_full_and_short(all_written(
+            put_even_plan(plan, 2, (uint16_t)(horizon / 2)), tails.totals[0]));
+    else
+        expect_in_words(0, words_written(REFUSED_NO_CHAIN));
+}
+
+static void test_every_horizon(void)
+{
+    for (unsigned horizon = 1; horizon <= MOST_YEARS; horizon++) {
+        test_hundred_years(horizon);
+        test_two_years(horizon);
     }
 }
 
@@ -424,7 +520,7 @@ static void test_null(void)
     expect_outcome_with_null(no_sheet, (struct lent){0, 0},
                              left(REFUSED_LENGTH));
     name_case("NULL with length 0 for the sheet");
-    expect_outcome_with_null(no_sheet, (struct lent){30, 602},
+    expect_outcome_with_null(no_sheet, (struct lent){30, 301},
                              left(REFUSED_LENGTH));
     name_case("NULL with length 0 for plan and words");
     expect_outcome_with_null(this_sheet, (struct lent){0, 0},
@@ -433,11 +529,11 @@ static void test_null(void)
     expect_outcome_with_null(this_sheet, (struct lent){30, 0},
                              left(REFUSED_WORDS));
     name_case("NULL with length 0 for the plan");
-    expect_outcome_with_null(this_sheet, (struct lent){0, 602},
+    expect_outcome_with_null(this_sheet, (struct lent){0, 301},
                              words_written(REFUSED_SHORT_PLAN));
     prepare(make_case_9_sheet);
     name_case("NULL with length 0 for the plan, no chain");
-    expect_outcome_with_null(this_sheet, (struct lent){0, 602},
+    expect_outcome_with_null(this_sheet, (struct lent){0, 301},
                              words_written(REFUSED_NO_CHAIN));
 }
 
@@ -462,7 +558,7 @@ static void test_sheet_unchanged(void)
 
     name_case("sheet unchanged by planning");
     memcpy(before, sheet, sizeof sheet);
-    expect_outcome_with_null(this_sheet, (struct lent){full.plan.length, 602},
+    expect_outcome_with_null(this_sheet, (struct lent){full.plan.length, 301},
                              full);
     stop_unless(memcmp(before, sheet, sizeof sheet) == 0, "comparison");
 }
@@ -492,6 +588,7 @@ void test_planning(void)
     test_words_of_case_12();
     test_words_without_replacements();
     test_every_word_count();
+    test_every_horizon();
     test_null();
     test_alignments();
     test_sheet_unchanged();

@@ -2,7 +2,7 @@
 -- it is that of renovating (`renovated-best`), by the totals of renovating that of maintaining (`planned-best`). What the choice of an end asks
 -- holds with what is lent (`lent-asks`, `tails-fit`). Assumes nothing.
 use Prim.Native.Nat.{ℕ, suc, _-_, _≤_, _<_}
-use mathlib.Core.Path.{_≡_, refl, ap, sym, subst, _∙_}
+use mathlib.Core.Path.{_≡_, refl, ap, sym, _∙_}
 use mathlib.Core.Bool.{true}
 use mathlib.Core.List.{List}
 use mathlib.Core.Logic.{_⊎_, inl, inr, ⊎-elim}
@@ -124,7 +124,4 @@ lent-asks s fit d divides option y streams ages words known early lent room fits
 
 -- the lent words leave room
 pub tails-fit : (s : Sheet) → SheetFits s → (y : ℕ) (words : List ℕ) → TailsLent s words → WordsFit (s .horizon) y words
-tails-fit s good y words held =
-    let T = horizon-read s (good .sheet) (good .read) in
-    words-fit (good .sheet) (subst Fit (good .read) (good .fit)) (s .horizon) y words T
-    (λ e late within. held .held (good .sheet) (good .read) e (omega (arith, T)))
+tails-fit s good y words lent = words-fit s words good y (λ p read e late inside. lent .held p read e inside)

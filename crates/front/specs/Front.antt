@@ -29,12 +29,12 @@ pub record Held (figure : PlanningSheet → ℕ → ℕ) (Domain : PlanningSheet
   pub room : yearPlaces ≤ length l
   pub held : (p : PlanningSheet) → s ≡ parsed p → (y : ℕ) → Domain p y → getD l y 0 ≡ figure p y
 
--- the lent words, once they are written: the least totals of replacements from each year, and the ends of the first of them
+-- the lent words, once they are written: the least totals of replacements from each year; and beside them the ends of the first of these
 abbrev pub TailsLent : Sheet → (words : List ℕ) → Type 0
 TailsLent = Held (λ p y. tailFrom p y .total) (λ p y. y ≤ p .horizon)
 
-abbrev pub FirstsLent : Sheet → (firsts : List ℕ) → Type 0
-FirstsLent = Held (λ p y. firstOf (tailFrom p y .ends)) (λ p y. y ≤ p .horizon)
+abbrev pub FirstsHeld : Sheet → (firsts : List ℕ) → Type 0
+FirstsHeld = Held (λ p y. firstOf (tailFrom p y .ends)) (λ p y. y ≤ p .horizon)
 
 -- replacements lead from year j to the horizon
 abbrev pub Leads : Sheet → (j : ℕ) → Type 0

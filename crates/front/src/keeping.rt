@@ -24,12 +24,8 @@ pub fn best_from(
     ensures { λ r. ⌜ r ≡ bestKept kept horizon (wordOf (now (words .entry))) ⌝ }
 {
     let from = kept.from;
-    let none = Best {
-        total: weighing::NONE,
-        end: 0,
-    };
     let nothing = Units(0);
     let behind = words[from as usize];
-    let best = weighing::weigh(true, none, nothing, from, behind);
+    let best = weighing::weigh(true, weighing::NOTHING, nothing, from, behind);
     weighing::best_end(words, streams, ages, kept, discount, horizon, best)
 }

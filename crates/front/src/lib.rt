@@ -9,7 +9,7 @@ ghost use Rattle.sheet.specs.Parsed.{parsed};
 ghost use Rattle.checking.specs.Fit.{SheetFits};
 ghost use Rattle.steps.specs.Fit.{Divides};
 ghost use Rattle.front.specs.Planned.{planned};
-ghost use Rattle.front.specs.Front.{front, TailsLent, FirstsLent, Leads, Follows};
+ghost use Rattle.front.specs.Front.{front, TailsLent, FirstsHeld, Leads, Follows};
 use division::Divisor;
 use sheet::Sheet;
 use sheet::YEARS;
@@ -55,7 +55,7 @@ pub fn best_front(words: &[u64], sheet: Sheet, discount: Divisor) -> Front
 // Writes the ends of the chosen replacements from year j on, one after the other, and answers how many there are. `firsts` has the end of
 // the first replacement from each year.
 pub fn ends_from(ends: &mut [u64], firsts: &[u64], sheet: Sheet, j: u64) -> usize
-    requires { ⌜ SheetFits sheet × FirstsLent sheet (now firsts) ⌝ }
+    requires { ⌜ SheetFits sheet × FirstsHeld sheet (now firsts) ⌝ }
     requires { ⌜ (j ≤ sheet .horizon) × Leads sheet j × (300 ≤ length (now ends)) ⌝ }
     ensures { λ r. ⌜ ((p : PlanningSheet) → sheet ≡ parsed p → Follows p j r (now (ends .exit))) ⌝ }
 {

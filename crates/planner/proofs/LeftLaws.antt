@@ -8,7 +8,8 @@ use native.Mathlib.Omega.{arith}
 use lib.ListN.{length}
 use Rattle.sheet.specs.Sheet.{sheetOf}
 use Rattle.checking.proofs.PassesLaws.{checked-iff}
-use Rattle.tails.proofs.WordLaws.{tail-words-length}
+use Rattle.tails.specs.Words.{totalOf}
+use Rattle.tails.proofs.WordLaws.{years-length}
 use Rattle.planning.specs.Planning.{planAnswer, planAfter, wordsAfter}
 use Rattle.planning.proofs.PlanningLaws.{words-lent}
 use Rattle.planner.specs.Promises.{Ready, Leaves}
@@ -18,7 +19,7 @@ use Rattle.planner.proofs.DoneLaws.{done-behind, done-length}
 
 module _ (s plan words : List ℕ) where
   lent-length : Ready s words → length (wordsAfter s plan words) ≡ length words
-  lent-length h = ap length (words-lent s plan words (checked-iff s .1 (h .passes)) (h .enough)) ∙ tail-words-length (sheetOf s) words
+  lent-length h = ap length (words-lent s plan words (checked-iff s .1 (h .passes)) (h .enough)) ∙ years-length totalOf (sheetOf s) words
 
   -- a refusal after the words are written leaves the plan
   refused-leaves :

@@ -45,23 +45,26 @@ module _ (s plan words : List ℕ) where
     passed : checked s .number ≡ 0
     passed = checked-iff s .1 (ready .passes)
 
+    enough : wordsNeeded ≤ length words
+    enough = omega (arith, ready .enough)
+
     way-none : planned p .total ≡ noTotal → Way s plan words
     way-none q =
         let e = planning-none p plan q in
-        let o = plan-on s plan words passed (ready .enough) _ _ _ (e .0) (e .1) refl in
+        let o = plan-on s plan words passed enough _ _ _ (e .0) (e .1) refl in
         none ready (planned-none p (fit s (ready .passes)) .0 q) (sym (o .0)) (sym (o .1))
 
     module _ (there : planned p .total ≡ noTotal → ⊥) where
       way-short : length plan < planLength (found p) → Way s plan words
       way-short l =
           let e = planning-short p plan there l in
-          let o = plan-on s plan words passed (ready .enough) _ _ _ (e .0) (e .1) refl in
+          let o = plan-on s plan words passed enough _ _ _ (e .0) (e .1) refl in
           short ready (planned-chosen p (fit s (ready .passes)) there .0) l (sym (o .0)) (sym (o .1))
 
       is-done : planLength (found p) ≤ length plan → Done s plan words
       is-done l =
           let e = planning-fits p plan there l in
-          let o = plan-on s plan words passed (ready .enough) _ _ _ (e .0) (e .1) refl in
+          let o = plan-on s plan words passed enough _ _ _ (e .0) (e .1) refl in
           let c = planned-chosen p (fit s (ready .passes)) there in
           record {
             ready = ready;
@@ -89,7 +92,7 @@ module _ (s plan words : List ℕ) where
 
   way-passed : Passes s → Way s plan words
   way-passed h =
-      by-test (leb wordsNeeded (length words)) (λ t. way-ready (record { passes = h; enough = leb-true wordsNeeded (length words) t }))
+      by-test (leb wordsNeeded (length words)) (λ t. way-ready (record { passes = h; enough = omega (arith, leb-true wordsNeeded (length words) t) }))
       (λ t.
       let l = leb-false wordsNeeded (length words) t in
       let o = plan-few s plan words (checked-iff s .1 h) l in
@@ -110,7 +113,7 @@ module _ (s plan words : List ℕ) where
   pub eleven-when : Ready s words × ((c : Chain) → Feasible p c → ⊥) → planAnswer s plan words .number ≡ 11
   eleven-when h =
       let e = planning-none p plan (planned-none p (fit s (h .0 .passes)) .1 (h .1)) in
-      sym (numberOf (plan-on s plan words (passed (h .0)) (h .0 .enough) _ _ _ (e .0) (e .1) refl .0))
+      sym (numberOf (plan-on s plan words (passed (h .0)) (enough (h .0)) _ _ _ (e .0) (e .1) refl .0))
 
   pub twelve-when :
       Ready s words × ((c : Chain) × (ChosenChain p c × (length plan < planLength c))) → planAnswer s plan words .number ≡ 12
@@ -119,7 +122,7 @@ module _ (s plan words : List ℕ) where
       let chosen = h .1 .1 .0 in
       let l = subst (λ (c : Chain). length plan < planLength c) (found-when (h .0) c chosen) (h .1 .1 .1) in
       let e = planning-short p plan (there-when (h .0) c (chosen .feasible)) l in
-      sym (numberOf (plan-on s plan words (passed (h .0)) (h .0 .enough) _ _ _ (e .0) (e .1) refl .0))
+      sym (numberOf (plan-on s plan words (passed (h .0)) (enough (h .0)) _ _ _ (e .0) (e .1) refl .0))
 
   pub zero-when :
       Ready s words × ((c : Chain) × (ChosenChain p c × (planLength c ≤ length plan))) → planAnswer s plan words .number ≡ 0

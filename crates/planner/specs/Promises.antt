@@ -24,7 +24,7 @@ use Rattle.pricing.specs.Pricing.{priced}
 use Rattle.tails.specs.Words.{wordsNeeded}
 use Rattle.tails.specs.Cheapest.{CheapestWords}
 
--- the sheet passes the checks, which is where `check` answers 0, and at least 602 words are lent
+-- the sheet passes the checks, which is where `check` answers 0, and at least 301 words are lent
 pub record Ready (s words : List ℕ) : Type 0 where
   pub passes : Passes s
   pub enough : wordsNeeded ≤ length words
@@ -36,7 +36,7 @@ pub record CheckedFirst (s : List ℕ) (a : Answer) : Type 0 where
   pub option : Passes s → a .option ≡ 3
   pub total : (a .number ≡ 0 → ⊥) → a .total ≡ 0
 
--- 10 exactly where a sheet that passes comes with fewer than 602 words
+-- 10 exactly where a sheet that passes comes with fewer than 301 words
 abbrev pub RefusedTen : (s words : List ℕ) (number : ℕ) → Type 0
 RefusedTen s words number = (number ≡ 10) ↔ (Passes s × (length words < wordsNeeded))
 
@@ -54,7 +54,7 @@ abbrev pub AcceptedWhen : (s plan words : List ℕ) (number : ℕ) → Type 0
 AcceptedWhen s plan words number =
     (number ≡ 0) ↔ (Ready s words × ((c : Chain) × (ChosenChain (sheetOf s) c × (planLength c ≤ length plan))))
 
--- with long enough buffers, 602 words and 19 + 2T plan bytes, a sheet that passes is accepted as soon as some chain is feasible
+-- with long enough buffers, 301 words and 19 + 2T plan bytes, a sheet that passes is accepted as soon as some chain is feasible
 abbrev pub AmpleAccepted : (s plan words : List ℕ) (number : ℕ) → Type 0
 AmpleAccepted s plan words number =
     Ready s words → planSize (sheetOf s .horizon) ≤ length plan → (c : Chain) → Feasible (sheetOf s) c → number ≡ 0

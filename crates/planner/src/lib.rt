@@ -4,6 +4,7 @@ ghost use mathlib.Core.Path.{_≡_};
 ghost use Rattle.planning.specs.Planning.{planAnswer, planAfter, wordsAfter};
 ghost use Rattle.planner.specs.Promises.{Promised};
 use base::Answer;
+use sheet::YEARS;
 
 mod written;
 
@@ -22,6 +23,7 @@ pub fn plan(sheet: &[u8], plan: &mut [u8], words: &mut [u64]) -> Answer
         return base::refused(10, 3);
     }
     let parsed = sheet::parse(sheet);
-    tails::tail_words(words, parsed);
-    written::write_chosen(parsed, plan, words)
+    let mut firsts = [0u64; YEARS];
+    tails::tail_words(words, &mut firsts, parsed);
+    written::write_chosen(parsed, plan, words, &firsts)
 }

@@ -16,14 +16,14 @@ use Rattle.choice.specs.Running.{weigh, overEnds}
 use Rattle.choice.specs.Table.{table, entry}
 use Rattle.chain.specs.PlanBytes.{endBytes, header, encode}
 use Rattle.tails.specs.Tail.{bestEnd, tailFrom}
-use Rattle.tails.specs.Words.{tails, tailWords}
+use Rattle.tails.specs.Words.{tails, ofYears}
 use Rattle.front.specs.Planned.{renovated, planned}
 use Rattle.planning.specs.Planning.{planning, planAnswer, planAfter, wordsAfter}
 use Rattle.planning.specs.Cases.{casesOneToTwelve, casesOfPlanning}
 
 -- both lists at once, by the same definitions
 cases-hold : AllHold casesOneToTwelve × AllHold casesOfPlanning
-unfolding u16At u32At i32At expenseAt onceAt optionAt sheetOf factor flowOf overhaulsOf termsOf _unless_else_ inflationOk inflationsOk ageingOk ageingsOk ageBefore overhaulOk headerNumber fieldsNumber overhaulAnswer firstBelow optionAnswer checked sumOf divided plain inService repeated rounded arcOf once inYear investment maintenance electricity ageOf overhaul forEach paidIf overhaulsBelow paid payments cost offered costing costed bytesOf endBytes header encode weigh overEnds table entry bestEnd tailFrom renovated planned planning planAnswer planAfter wordsAfter tailWords tails
+unfolding u16At u32At i32At expenseAt onceAt optionAt sheetOf factor flowOf overhaulsOf termsOf _unless_else_ inflationOk inflationsOk ageingOk ageingsOk ageBefore overhaulOk headerNumber fieldsNumber overhaulAnswer firstBelow optionAnswer checked sumOf divided plain inService repeated rounded arcOf once inYear investment maintenance electricity ageOf overhaul forEach paidIf overhaulsBelow paid payments cost offered costing costed bytesOf endBytes header encode weigh overEnds table entry bestEnd tailFrom renovated planned planning planAnswer planAfter wordsAfter ofYears tails
 cases-hold = (
   (refl, (refl, (refl, (refl, (refl, (refl, (refl, (refl, (refl, (refl, (refl, (refl, tt)))))))))))),
   (refl, (refl, (refl, (refl, (refl, (refl, (refl, (refl, (refl, (refl, (refl, (refl, tt)))))))))))),

@@ -1,6 +1,7 @@
 -- What planning answers and leaves, way out by way out. Where the sheet is at hand (`SheetOutcome`): no chain (`planning-none`), a buffer that is
 -- too short (`planning-short`), a plan written (`planning-fits`). Of a whole call (`Outcome`): refused by the check (`plan-refused`), too few
--- words (`plan-few`), or as the sheet says (`plan-on`), with the words written (`words-lent`). Assumes nothing.
+-- words (`plan-few`), or as the sheet says (`plan-on`), with the words written (`words-lent`). Nothing of the words enters a plan
+-- (`plan-by-length`). Assumes nothing.
 use Prim.Native.Nat.{ℕ, _≤_, _<_}
 use mathlib.Core.Path.{_≡_, sym, _∙_}
 use mathlib.Core.Bool.{true, false}
@@ -100,3 +101,13 @@ module _ (s plan words : List ℕ) where
       unfolding planWritten planAfter
       plan-on a plan′ words′ answer written lent =
           (answer ∙ planning-answered, written ∙ rw planning-answered, lent ∙ sym words-lent)
+
+-- nothing of the words enters a plan: of two lists that are long enough the answer and the plan are the same
+pub plan-by-length :
+    (s plan words words′ : List ℕ) → wordsNeeded ≤ length words → wordsNeeded ≤ length words′
+    → (planAnswer s plan words ≡ planAnswer s plan words′) × (planAfter s plan words ≡ planAfter s plan words′)
+unfolding planAnswer planAfter
+plan-by-length s plan words words′ enough enough′ =
+    let t = le-leb wordsNeeded (length words) enough in
+    let u = le-leb wordsNeeded (length words′) enough′ in
+    (rw (t, u), rw (t, u))

@@ -1,8 +1,8 @@
 -- Document 01's cases 9 to 12, planned, and the list of all twelve; and further plannings of its sheets, worked out by hand from the rules. The
 -- bytes of plans are written out, not encoded. Definitions only.
-use Prim.Native.Nat.{ℕ}
+use Prim.Native.Nat.{ℕ, _-_}
 use mathlib.Core.List.{List, [], _∷_, _++_}
-use lib.ListN.{getD, replicate}
+use lib.ListN.{length, replicate}
 use Rattle.base.specs.Answer.{accepted, refused}
 use Rattle.base.specs.Cases.{Case}
 use Rattle.base.specs.declared.Answer.{Answer}
@@ -10,6 +10,7 @@ use Rattle.steps.specs.Cases.{casesOneToFive}
 use Rattle.costing.specs.CaseSheets.{sheet9, sheet10, sheet11, sheet12, freeSheet}
 use Rattle.costing.specs.Cases.{casesSixToEight}
 use Rattle.chain.specs.CasePlans.{planOf}
+use Rattle.tails.specs.Cases.{absent}
 use Rattle.planning.specs.Planning.{planAnswer, planAfter, wordsAfter}
 
 -- what planning answers, and what a plan buffer that was full of 255 then holds
@@ -24,14 +25,13 @@ planCaseWith sheet room words answer after =
     }
 
 abbrev pub planCase : (sheet : List ℕ) (room : ℕ) → Answer → (after : List ℕ) → Case
-planCase sheet room answer after = planCaseWith sheet room 602 answer after
+planCase sheet room answer after = planCaseWith sheet room 301 answer after
 
--- what word 0 and word 301 then hold, if all words were 0
-abbrev pub wordsCase : (sheet : List ℕ) (room words : ℕ) (first second : ℕ) → Case
-wordsCase sheet room words first second =
+-- which words are written, from word 0 on; all others hold what all held before
+abbrev pub wordsCase : (sheet : List ℕ) (room words : ℕ) (written : List ℕ) → Case
+wordsCase sheet room words written =
     let plan : List ℕ = replicate room 255 in
-    let lent : List ℕ = wordsAfter sheet plan (replicate words 0) in
-    record { Figure = ℕ × ℕ; given = (getD lent 0 0, getD lent 301 0); expected = (first, second) }
+    record { Figure = List ℕ; given = wordsAfter sheet plan (replicate words 7); expected = written ++ replicate (words - length written) 7 }
 
 -- 0; 30,000 = 117 × 256 + 48; 240,000 = (3 × 256 + 169) × 256 + 128
 abbrev pub total10 : List ℕ
@@ -68,10 +68,10 @@ casesOfPlanning =
     ∷ planCase sheet12 22 (refused 12 3) (replicate 22 255)
     ∷ planCase sheet9 0 (refused 11 3) []
     -- a word too few
-    ∷ planCaseWith sheet12 23 601 (refused 10 3) (replicate 23 255)
-    -- the words are written on 0, 11 and 12, and left on 10
-    ∷ wordsCase sheet12 23 602 240_000 2
-    ∷ wordsCase sheet12 22 602 240_000 2
-    ∷ wordsCase sheet9 23 602 18_446_744_073_709_551_615 0
-    ∷ wordsCase sheet12 23 601 0 0
+    ∷ planCaseWith sheet12 23 300 (refused 10 3) (replicate 23 255)
+    -- words 0 to T are written on 0, 12 and 11, however many there are, and none on 10
+    ∷ wordsCase sheet12 23 301 (240_000 ∷ 230_000 ∷ 120_000 ∷ 110_000 ∷ 0 ∷ [])
+    ∷ wordsCase sheet12 22 602 (240_000 ∷ 230_000 ∷ 120_000 ∷ 110_000 ∷ 0 ∷ [])
+    ∷ wordsCase sheet9 23 302 (absent ∷ 0 ∷ 0 ∷ absent ∷ absent ∷ 0 ∷ [])
+    ∷ wordsCase sheet12 23 300 []
     ∷ []

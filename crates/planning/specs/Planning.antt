@@ -1,5 +1,5 @@
--- What planning answers, and what it leaves in its buffers: document 01, 'Feasible chains', and rows 10 to 12 of its refusal table.
--- Definitions only.
+-- What planning answers, and what it leaves in its buffers: document 01, 'Feasible chains', and rows 10 to 12 of its refusal table, with 10 as
+-- request 3 of document 02 has it. Definitions only.
 use Prim.Native.Nat.{ℕ}
 use mathlib.Core.List.{List}
 use mathlib.Core.Bool.{Bool, cond, _||_}
@@ -31,7 +31,7 @@ planning p room =
 abbrev pub planWith : PlanningSheet → List ℕ → List ℕ
 planWith p plan = sets plan 0 (encode (planned p .total) (found p))
 
--- 10: fewer than 602 words lent
+-- 10: fewer than 301 words lent
 abbrev pub wordsEnough : List ℕ → Bool
 wordsEnough words = leb wordsNeeded (length words)
 

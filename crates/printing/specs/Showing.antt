@@ -21,7 +21,7 @@ use Rattle.lines.specs.Texts.{textFor}
 unfoldable pub printed : Answer → (plan : List ℕ) → List ℕ
 printed a plan = cond (eqb (a .number) 0) (linesOf plan) (refusedLine (a .number) (a .option))
 
--- a sheet is planned in 619 = 19 + 2 · 300 plan bytes and 602 words, which are enough for every sheet; what is in them does not matter
+-- a sheet is planned in 619 = 19 + 2 · 300 plan bytes and 301 words, which are enough for every sheet; what is in them does not matter
 abbrev pub planRoom : List ℕ
 planRoom = replicate 619 0
 

@@ -2,10 +2,12 @@
 --     CaseLaws: the words of document 01's sheets, straight from the definitions
 --     CheapestLaws: what is promised of year T
 --     TailLaws: each entry of the table is the one that document 01 asks
---     WordLaws: the words written from T down, and what they promise after planning
+--     WordLaws: what the words have after planning, and what they promise
+--     WritingLaws: a list written from T down
 --     YearLaws: the choice from a year, by the words of the later years, is the table's
 pub mod CaseLaws
 pub mod CheapestLaws
 pub mod TailLaws
 pub mod WordLaws
+pub mod WritingLaws
 pub mod YearLaws

@@ -1,14 +1,14 @@
 -- The table holds what document 01 asks. Its entry of T is empty (`tail-last`), that of an earlier year the best end by the later entries
 -- (`tail-step`). The best end of an option is the entry of the lists that begin with it (`best-holds`); so an entry of the table has the chosen
 -- list of replacements from its year to T (`tail-holds`), and a total that is at most what the years left can cost (`tail-le`), which is less
--- than 2^64 − 1 (`room-lt`): total and first end are the cheapest (`tail-cheapest`). Assumes nothing.
+-- than 2^64 − 1 (`room-lt`): the total is the least (`tail-cheapest`). Assumes nothing.
 use Prim.Native.Nat.{ℕ, suc, _+_, _-_, _*_, _≤_, _<_}
-use mathlib.Core.Path.{_≡_, refl, ap}
+use mathlib.Core.Path.{_≡_, refl}
 use mathlib.Core.List.{List, [], _∷_}
 use mathlib.Core.Bool.{true}
 use mathlib.Core.Logic.{_↔_, inr}
 use native.Mathlib.Omega.{arith}
-use Rattle.base.specs.Lists.{sumOf, firstOf}
+use Rattle.base.specs.Lists.{sumOf}
 use Rattle.sheet.specs.Sheet.{PlanningSheet, replace}
 use Rattle.sheet.specs.Parsed.{parsed}
 use Rattle.sheet.proofs.ParsedLaws.{horizon-read}
@@ -21,7 +21,7 @@ use Rattle.costing.proofs.OfferedLaws.{offered-iff}
 use Rattle.choice.specs.Choice.{NotWorse}
 use Rattle.choice.specs.Running.{Entry, noTotal, noEntry, entries, Holds, Then, thenWeight, some}
 use Rattle.choice.specs.Table.{nothingLeft}
-use Rattle.choice.proofs.HoldsLaws.{holds-none, holds-noEntry, holds-chosen, holds-least, holds-same}
+use Rattle.choice.proofs.HoldsLaws.{holds-none, holds-chosen, holds-least, holds-same}
 use Rattle.choice.proofs.RunningLaws.{over-same}
 use Rattle.choice.proofs.LeastLaws.{over-holds}
 use Rattle.choice.proofs.TableLaws.{entry-last, entry-step, every-year}
@@ -118,12 +118,11 @@ module _ (p : PlanningSheet) where
     pub tail-le : (y : ℕ) → y ≤ p .horizon → (tailFrom p y .total ≡ noTotal → ⊥) → tailFrom p y .total ≤ (p .horizon - y) * yearly
     tail-le y l there = holds-chosen _ _ _ _ (tail-holds y l) there .2
 
-    pub tail-cheapest : (y : ℕ) → y ≤ p .horizon → Cheapest p y (tailFrom p y .total) (firstOf (tailFrom p y .ends))
+    pub tail-cheapest : (y : ℕ) → y ≤ p .horizon → Cheapest p y (tailFrom p y .total)
     tail-cheapest y l =
         let holds = tail-holds y l in
         record {
           none = holds-none _ _ _ _ holds (room-lt y);
-          noEnd = λ q. ap (λ (t : Entry). firstOf (t .ends)) (holds-noEntry _ _ _ _ holds (room-lt y) q);
-          chosen = λ there. let c = holds-chosen _ _ _ _ holds there in (tailFrom p y .ends, (c .0, c .1, refl));
+          attained = λ there. let c = holds-chosen _ _ _ _ holds there in (tailFrom p y .ends, (c .0 .member, c .1));
           least = holds-least _ _ _ _ holds (room-lt y);
         }

@@ -6,7 +6,7 @@ use Rattle.sheet.specs.Sheet.{sheetOf}
 use Rattle.costing.specs.CaseSheets.{noOverhaul, arcSheet, sheet9, sheet10, sheet11, sheet12}
 use Rattle.tails.specs.Words.{totalOf, firstEnd, tails}
 
--- words 0 to T, and words 301 to 301 + T
+-- words 0 to T, and the first ends of the same years
 abbrev pub wordsOfSheet : (sheet totals ends : List ℕ) → Case
 wordsOfSheet sheet totals ends =
     record {

@@ -1,18 +1,12 @@
-// The words of every year, from the horizon down.
+// The words and the first ends of every year, from the horizon down.
 
 ghost use mathlib.Core.Path.{_≡_};
-ghost use Prim.Native.Nat.{_-_, _<_, _≤_};
-ghost use lib.ListN.{length};
-ghost use Rattle.sheet.specs.Sheet.{PlanningSheet, replace};
-ghost use Rattle.sheet.specs.Parsed.{parsed};
-ghost use Rattle.checking.specs.Fit.{SheetFits};
-ghost use Rattle.steps.specs.Fit.{Divides};
-ghost use Rattle.choice.specs.Running.{noEntry};
-ghost use Rattle.streams.specs.Streams.{Lent};
-ghost use Rattle.weighing.specs.Best.{inShort};
-ghost use Rattle.weighing.specs.Ends.{bestTo, wordOf, WordsBehind, CostsKnown};
-ghost use Rattle.tails.specs.Words.{wordsNeeded, withBest, withYear, WordsHeld, tailWords};
-use crate::FIRSTS;
+ghost use Prim.Native.Nat.{_+_, _-_, _%_, _<_, _≤_};
+ghost use lib.ListN.{length, set};
+ghost use Rattle.sheet.specs.Layout.{yearPlaces};
+ghost use Rattle.weighing.specs.Ends.{WordsBehind, CostsKnown};
+ghost use Rattle.tails.specs.Words.{totalOf, firstEnd};
+ghost use Rattle.tails.specs.Writing.{chosenBy, WordsHeld, YearWritten, TwoWritten, LastWritten, AllWritten, Fillable};
 use base::order;
 use costing::Kept;
 use division::Divisor;
@@ -20,41 +14,98 @@ use sheet::REPLACE;
 use sheet::Sheet;
 use weighing::Best;
 
-// Writes the two words of a year by what the replacements from it cost.
-fn word(words: &mut [u64], costs: &[u64], kept: Kept, horizon: u64)
-    requires { ⌜ CostsKnown kept horizon (now costs) × WordsBehind kept horizon (now words) ⌝ }
-    requires { ⌜ wordsNeeded ≤ length (now words) ⌝ }
-    ensures { λ _. ⌜ now (words .exit) ≡ withBest (kept .from) (bestTo kept horizon (wordOf (now (words .entry))) (inShort noEntry)) (now (words .entry)) ⌝ }
+// Writes what was chosen from a year: its total to the words, its end to the first ends.
+fn put(words: &mut [u64], firsts: &mut [u64], year: u64, best: Best)
+    requires { ⌜ (year ≤ 300) × (year < length (now words)) × (year < length (now firsts)) ⌝ }
+    ensures words { λ _. ⌜ now (words .exit) ≡ set (now (words .entry)) year (best .total) ⌝ }
+    ensures firsts { λ _. ⌜ now (firsts .exit) ≡ set (now (firsts .entry)) year (best .end) ⌝ }
 {
-    let none = Best {
-        total: weighing::NONE,
-        end: 0,
-    };
-    let chosen = weighing::best_of(words, costs, kept, horizon, none);
-    let year = kept.from as usize;
-    words[year] = chosen.total;
-    words[FIRSTS + year] = chosen.end;
+    words[year as usize] = best.total;
+    firsts[year as usize] = best.end;
 }
 
-// Writes the words of the two years before a year whose words, and those of later years, are written, and answers the earlier of the two.
-// Before year 1 there is year 0 alone.
+// Writes the word and the first end of a year by what the replacements from it cost.
+fn word(words: &mut [u64], firsts: &mut [u64], costs: &[u64], kept: Kept, horizon: u64)
+    requires { ⌜ CostsKnown kept horizon (now costs) × WordsBehind kept horizon (now words) × (yearPlaces ≤ length (now firsts)) ⌝ }
+    ensures words { λ _. ⌜ now (words .exit) ≡ set (now (words .entry)) (kept .from) (chosenBy kept horizon (now (words .entry)) .total) ⌝ }
+    ensures firsts { λ _. ⌜ now (firsts .exit) ≡ set (now (firsts .entry)) (kept .from) (chosenBy kept horizon (now (words .entry)) .end) ⌝ }
+{
+    let chosen = weighing::best_of(words, costs, kept, horizon, weighing::NOTHING);
+    put(words, firsts, kept.from, chosen);
+}
+
+// Writes those of one year, by the words of the later years.
+fn one_year(
+    words: &mut [u64],
+    firsts: &mut [u64],
+    streams: &[u64],
+    ages: &[u64; 8],
+    sheet: Sheet,
+    discount: Divisor,
+    year: u64,
+)
+    requires { ⌜ Fillable sheet discount (now streams) (now ages) (now words) (now firsts) ⌝ }
+    requires { ⌜ (year < sheet .horizon) × WordsHeld sheet (year + 1) (now words) ⌝ }
+    ensures words { λ _. ⌜ YearWritten totalOf sheet year (now (words .entry)) (now (words .exit)) ⌝ }
+    ensures firsts { λ _. ⌜ YearWritten firstEnd sheet year (now (firsts .entry)) (now (firsts .exit)) ⌝ }
+{
+    let kept = costing::kept_of(sheet, REPLACE, year);
+    let chosen = weighing::best_end(
+        words,
+        streams,
+        ages,
+        kept,
+        discount,
+        sheet.horizon,
+        weighing::NOTHING,
+    );
+    put(words, firsts, year, chosen);
+}
+
+// Writes those of the horizon, and if it is odd those of the year before too. Answers the year that is reached, which is even.
+fn last_years(
+    words: &mut [u64],
+    firsts: &mut [u64],
+    streams: &[u64],
+    ages: &[u64; 8],
+    sheet: Sheet,
+    discount: Divisor,
+) -> u64
+    requires { ⌜ Fillable sheet discount (now streams) (now ages) (now words) (now firsts) ⌝ }
+    ensures reached { λ r. ⌜ (r % 2 ≡ 0) × (r ≤ sheet .horizon) ⌝ }
+    ensures words { λ r. ⌜ LastWritten totalOf sheet r (now (words .entry)) (now (words .exit)) ⌝ }
+    ensures firsts { λ r. ⌜ LastWritten firstEnd sheet r (now (firsts .entry)) (now (firsts .exit)) ⌝ }
+{
+    let horizon = sheet.horizon;
+    let arrived = Best { total: 0, end: 0 };
+    put(words, firsts, horizon, arrived);
+    if horizon % 2 == 0 {
+        return horizon;
+    }
+    let year = horizon - 1;
+    one_year(words, firsts, streams, ages, sheet, discount, year);
+    year
+}
+
+// Writes those of the two years before a year whose word, and those of later years, are written, and answers the earlier of the two.
 fn two_years(
     words: &mut [u64],
+    firsts: &mut [u64],
     streams: &[u64],
     ages: &[u64; 8],
     sheet: Sheet,
     discount: Divisor,
     reached: u64,
 ) -> u64
-    requires { ⌜ SheetFits sheet × Divides discount (sheet .discount) ⌝ }
-    requires { ⌜ Lent sheet replace (now streams) (now ages) × (wordsNeeded ≤ length (now words)) ⌝ }
-    requires { ⌜ (0 < reached) × (reached ≤ sheet .horizon) × ((p : PlanningSheet) → sheet ≡ parsed p → WordsHeld p reached (now words)) ⌝ }
-    ensures reached { λ r. ⌜ r ≡ reached - 1 - 1 ⌝ }
-    ensures words { λ _. ⌜ ((p : PlanningSheet) → sheet ≡ parsed p → now (words .exit) ≡ withYear p (reached - 1 - 1) (withYear p (reached - 1) (now (words .entry)))) ⌝ }
+    requires { ⌜ Fillable sheet discount (now streams) (now ages) (now words) (now firsts) ⌝ }
+    requires { ⌜ (2 ≤ reached) × (reached ≤ sheet .horizon) × WordsHeld sheet reached (now words) ⌝ }
+    ensures reached { λ r. ⌜ r ≡ reached - 2 ⌝ }
+    ensures words { λ _. ⌜ TwoWritten totalOf sheet reached (now (words .entry)) (now (words .exit)) ⌝ }
+    ensures firsts { λ _. ⌜ TwoWritten firstEnd sheet reached (now (firsts .entry)) (now (firsts .exit)) ⌝ }
 {
     let horizon = sheet.horizon;
     let start = reached - 1;
-    let from = order::one_less(start);
+    let from = reached - 2;
     let kept = costing::kept_of(sheet, REPLACE, from);
     let next = kept.starting(start);
     let terms = kept.terms;
@@ -72,22 +123,26 @@ fn two_years(
         horizon,
         years,
     );
-    word(words, &later, next, horizon);
-    word(words, &earlier, kept, horizon);
+    word(words, firsts, &later, next, horizon);
+    word(words, firsts, &earlier, kept, horizon);
     from
 }
 
-// Writes word y and word 301 + y for y from T down to 0.
-pub fn fill(words: &mut [u64], streams: &[u64], ages: &[u64; 8], sheet: Sheet, discount: Divisor)
-    requires { ⌜ SheetFits sheet × Divides discount (sheet .discount) ⌝ }
-    requires { ⌜ Lent sheet replace (now streams) (now ages) × (wordsNeeded ≤ length (now words)) ⌝ }
-    ensures { λ _. ⌜ ((p : PlanningSheet) → sheet ≡ parsed p → now (words .exit) ≡ tailWords p (now (words .entry))) ⌝ }
+// Writes those of every year, from T down to 0, each once.
+pub fn fill(
+    words: &mut [u64],
+    firsts: &mut [u64],
+    streams: &[u64],
+    ages: &[u64; 8],
+    sheet: Sheet,
+    discount: Divisor,
+)
+    requires { ⌜ Fillable sheet discount (now streams) (now ages) (now words) (now firsts) ⌝ }
+    ensures words { λ _. ⌜ AllWritten totalOf sheet (now (words .entry)) (now (words .exit)) ⌝ }
+    ensures firsts { λ _. ⌜ AllWritten firstEnd sheet (now (firsts .entry)) (now (firsts .exit)) ⌝ }
 {
-    let horizon = sheet.horizon;
-    words[horizon as usize] = 0;
-    words[FIRSTS + horizon as usize] = 0;
-    let mut y = horizon;
+    let mut y = last_years(words, firsts, streams, ages, sheet, discount);
     while 0 < y {
-        y = two_years(words, streams, ages, sheet, discount, y);
+        y = two_years(words, firsts, streams, ages, sheet, discount, y);
     }
 }

@@ -46,16 +46,16 @@ impl Tally {
     }
 }
 
-// What `plan` answers and writes.
+// What `plan` answers and writes; one word more is lent than it wants.
 struct Outcome {
     answer: Answer,
     plan: [u8; 278],
-    words: [u64; 602],
+    words: [u64; 302],
 }
 
 fn planned(sheet: [u8; 278]) -> Outcome {
     let mut plan = [expected::LEFT; 278];
-    let mut words = [expected::LEFT as u64; 602];
+    let mut words = [expected::LEFT as u64; 302];
     let answer = planner::plan(&sheet, &mut plan, &mut words);
     Outcome {
         answer: answer,
@@ -73,8 +73,8 @@ fn same_bytes(a: [u8; 278], b: [u8; 278]) -> bool {
     true
 }
 
-fn same_words(a: [u64; 602], b: [u64; 602]) -> bool {
-    for k in 0..602 {
+fn same_words(a: [u64; 302], b: [u64; 302]) -> bool {
+    for k in 0..302 {
         if a[k] != b[k] {
             return false;
         }

@@ -45,20 +45,11 @@ fn least(best: Best) -> u64 {
     best.total
 }
 
-// Word 301 + y: the end of the first of them, and 0 where there is none.
-fn first_end(best: Best) -> u64 {
-    let chain = best.chain;
-    let ends = chain.ends;
-    ends[0]
-}
-
-pub fn words(f: Figures) -> [u64; 602] {
-    let mut w = [LEFT as u64; 602];
+pub fn words(f: Figures) -> [u64; 302] {
+    let mut w = [LEFT as u64; 302];
     for y in 0..9 {
         if y as u64 <= f.horizon {
-            let best = replacements(f, y as u64);
-            w[y] = least(best);
-            w[301 + y] = first_end(best);
+            w[y] = least(replacements(f, y as u64));
         }
     }
     w

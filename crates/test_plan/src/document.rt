@@ -22,12 +22,12 @@ pub fn lengths() {
     let sheet = case_12();
     let mut short = [0u8; 22];
     let mut plan = [0u8; 23];
-    let mut few = [0u64; 601];
-    let mut words = [0u64; 602];
+    let mut few = [0u64; 300];
+    let mut words = [0u64; 301];
     in_buffers(b"case 12, 22 bytes", &sheet, &mut short, &mut words);
-    in_buffers(b"case 12, 601 words", &sheet, &mut plan, &mut few);
+    in_buffers(b"case 12, 300 words", &sheet, &mut plan, &mut few);
     in_buffers(
-        b"case 12, 23 bytes and 602 words",
+        b"case 12, 23 bytes and 301 words",
         &sheet,
         &mut plan,
         &mut words,

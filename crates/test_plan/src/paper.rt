@@ -12,7 +12,7 @@ use test_sheets::paper::sheet;
 pub fn replacements() {
     let s = sheet();
     let mut plan = [0u8; 29];
-    let mut words = [0u64; 602];
+    let mut words = [0u64; 301];
     in_buffers(b"paper", &s, &mut plan, &mut words);
     let a = pricing::price(&s, &plan);
     priced(a);

@@ -18,6 +18,6 @@ pub fn in_buffers(name: &[u8], sheet: &[u8], plan: &mut [u8], words: &mut [u64])
 // In buffers that are long enough for every sheet.
 pub fn amply(name: &[u8], sheet: &[u8]) {
     let mut plan = [0u8; 619];
-    let mut words = [0u64; 602];
+    let mut words = [0u64; 301];
     in_buffers(name, sheet, &mut plan, &mut words);
 }

@@ -37,29 +37,26 @@ pub fn priced(a: Answer) {
     }
 }
 
-// The year, word y and word 301 + y: the least total of replacements alone from y to T, and the end of the first of them.
-pub fn year(words: [u64; 602], y: usize)
+// The year and its word: the least total of replacements alone from y to T.
+pub fn year(words: [u64; 302], y: usize)
     requires { ⌜ y ≤ 300 ⌝ }
 {
     io::write_all(OUT, b"year");
     number(y as u64);
     if words[y] == NONE {
-        io::write_all(OUT, b": none");
+        io::write_all(OUT, b": none\n");
     } else {
         io::write_all(OUT, b": units");
         number(words[y]);
+        io::write_all(OUT, b"\n");
     }
-    io::write_all(OUT, b", end");
-    number(words[301 + y]);
-    io::write_all(OUT, b"\n");
 }
 
-// For T = 3, the first and the last word behind those of years 0 to T, of totals and of ends.
-pub fn kept(words: [u64; 602]) {
-    io::write_all(OUT, b"words 4, 300, 305 and 601:");
+// For T = 3, the first word behind those of years 0 to T, the last that planning wants, and the one behind it.
+pub fn kept(words: [u64; 302]) {
+    io::write_all(OUT, b"words 4, 300 and 301:");
     number(words[4]);
     number(words[300]);
-    number(words[305]);
-    number(words[601]);
+    number(words[301]);
     io::write_all(OUT, b"\n");
 }

@@ -25,6 +25,12 @@ pub struct Best {
 // No total: no list leads to the horizon.
 pub const NONE: u64 = 18_446_744_073_709_551_615;
 
+// Nothing is chosen yet.
+pub const NOTHING: Best = Best {
+    total: NONE,
+    end: 0,
+};
+
 // The better of the choice so far and an arc to year end, if that is offered, with a total behind it: of equal totals the later end.
 pub fn weigh(offered: bool, best: Best, cost: Units, end: u64, behind: u64) -> Best
     requires { ⌜ ((behind ≡ noTotal → ⊥) → cost .0 + behind < 2 ^ 64) ⌝ }

@@ -83,7 +83,7 @@ impl Case<'_> {
 /// The plan that the library makes, if it makes one.
 fn planned(sheet: &[u8]) -> Option<Vec<u8>> {
     let mut plan = vec![0; plan_bytes(LONGEST_HORIZON as usize)];
-    let answer = library::plan(sheet, &mut plan, &mut [0; 602]);
+    let answer = library::plan(sheet, &mut plan, &mut [0; 301]);
     if answer % 256 != 3 {
         return None;
     }

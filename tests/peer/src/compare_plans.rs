@@ -22,7 +22,13 @@ use std::collections::BTreeSet;
 
 /// Every kind of outcome must occur this often, or the sheets test too little.
 const LEAST_SEEN: u64 = 30;
-const WORDS: usize = 602;
+/// So many words are enough on every sheet, and one less is too few on each.
+const WORDS: usize = 301;
+/// No list is longer.
+const MOST_WORDS: usize = 700;
+/// Counts that must be seen, each with every number that it can have on a sheet that passes.
+const TOO_FEW_WORDS: [usize; 3] = [0, 1, 300];
+const ENOUGH_WORDS: [usize; 4] = [301, 302, 601, 602];
 /// All chains are listed up to this horizon.
 const LISTED_HORIZON: i64 = 8;
 
@@ -50,6 +56,8 @@ enum Kind {
     /// Of an accepted call: the buffer is just long enough, or longer.
     ExactPlan,
     LongerPlan,
+    /// Of a call: its number, and how many words it has.
+    Words(u64, usize),
 
     /// Of a sheet: what its least chain has.
     Chain(Parts),
@@ -65,7 +73,7 @@ enum Kind {
     Ties,
 }
 
-/// Those that are not about a chain's parts or a refused sheet.
+/// Those that are not about a chain's parts, a refused sheet or a count of words.
 const FURTHER_KINDS: [(Kind, &str); 13] = [
     (Kind::TooFewWords, "number 10"),
     (Kind::NoChain, "number 11"),
@@ -87,7 +95,18 @@ fn all_kinds() -> impl Iterator<Item = (Kind, String)> {
     let sheets = sheets.map(|packed| (Kind::RefusedSheet(packed), described(packed)));
     let chains = Parts::all().map(|parts| (Kind::Chain(parts), parts.described()));
     let further = FURTHER_KINDS.map(|(kind, name)| (kind, name.to_string()));
-    sheets.chain(chains).chain(further)
+    sheets.chain(chains).chain(words_kinds()).chain(further)
+}
+
+fn words_kinds() -> impl Iterator<Item = (Kind, String)> {
+    let too_few = TOO_FEW_WORDS.into_iter().map(|words| (10, words));
+    let enough = [0, 11, 12]
+        .into_iter()
+        .flat_map(|number| ENOUGH_WORDS.map(|words| (number, words)));
+    too_few.chain(enough).map(|(number, words)| {
+        let described = format!("number {number} with {words} words");
+        (Kind::Words(number, words), described)
+    })
 }
 
 /// What planning is to do with its buffers.
@@ -149,7 +168,10 @@ fn plan_lengths(random: &mut Random, horizon: i64, own: usize) -> BTreeSet<usize
 }
 
 fn enough_words(random: &mut Random) -> usize {
-    [WORDS, WORDS + 1, 700][random.below(3)]
+    match random.below(3) {
+        0 => WORDS + random.below(MOST_WORDS - WORDS + 1),
+        _ => ENOUGH_WORDS[random.below(ENOUGH_WORDS.len())],
+    }
 }
 
 struct Comparison {
@@ -242,6 +264,7 @@ impl Comparison {
         }
         self.tally.compared += 1;
         self.tally.saw(kind);
+        self.tally.saw(Kind::Words(answer.number, words_count));
         Ok(())
     }
 
@@ -283,7 +306,8 @@ impl Comparison {
             let words = enough_words(&mut self.random);
             self.compare(sheet, &outcome, plan_length, words)?;
         }
-        for words in [0, 1, 601, self.random.below(WORDS)] {
+        let some = self.random.below(WORDS);
+        for words in TOO_FEW_WORDS.into_iter().chain([some]) {
             let plan_length = lengths[self.random.below(lengths.len())];
             self.compare(sheet, &outcome, plan_length, words)?;
         }
@@ -330,7 +354,7 @@ impl Comparison {
             for plan_length in 0..=plan_bytes(unsigned(&sheet, HORIZON) as usize) + 3 {
                 self.compare(&sheet, &outcome, plan_length, WORDS)?;
             }
-            for words in 0..=WORDS + 3 {
+            for words in 0..=MOST_WORDS {
                 self.compare(&sheet, &outcome, outcome.plan_bytes(), words)?;
             }
         }
@@ -349,10 +373,10 @@ impl Comparison {
             let sheet = random_sheet(&mut self.random);
             let outcome = Outcome::without_planning(&sheet);
             let most_words = match outcome {
-                Outcome::Refused(_) => 700,
+                Outcome::Refused(_) => MOST_WORDS,
                 _ => WORDS - 1,
             };
-            for (plan_length, words) in [(0, 0), (18, 601), (619, 602), (700, 700)] {
+            for (plan_length, words) in [(0, 0), (18, 300), (619, 301), (700, MOST_WORDS)] {
                 self.compare(&sheet, &outcome, plan_length, words.min(most_words))?;
             }
         }

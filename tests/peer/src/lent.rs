@@ -2,11 +2,7 @@
 
 use crate::library;
 use crate::noisy::Noisy;
-use crate::planner::Tail;
 use crate::random::Random;
-
-/// Where the second half of the words begins: year y has word y and word 301 + y.
-const FIRST_ENDS: usize = 301;
 
 #[derive(Clone)]
 pub struct Lent {
@@ -43,11 +39,11 @@ impl Lent {
         self.plan()[..plan.len()].copy_from_slice(plan);
     }
 
-    pub fn write_words(&mut self, tails: &[Tail]) {
-        let words = self.words.lent();
-        for (year, tail) in tails.iter().enumerate() {
-            words[year] = tail.total.unwrap_or(u64::MAX);
-            words[FIRST_ENDS + year] = tail.first_end;
+    /// The words of the years that have a tail; those behind them are left.
+    pub fn write_words(&mut self, tails: &[Option<u64>]) {
+        let words = &mut self.words.lent()[..tails.len()];
+        for (word, tail) in words.iter_mut().zip(tails) {
+            *word = tail.unwrap_or(u64::MAX);
         }
     }
 
@@ -62,23 +58,15 @@ impl Lent {
 mod tests {
     use super::*;
 
-    fn tail(total: Option<u64>, first_end: u64) -> Tail {
-        Tail { total, first_end }
-    }
-
     #[test]
     fn words_by_hand() {
         let mut lent = Lent::new(&mut Random(19), 30, 602);
-        let before = lent.clone();
+        let mut before = lent.clone();
         assert_eq!(lent.difference(&before), None);
-        lent.write_words(&[tail(Some(7), 2), tail(None, 0), tail(Some(0), 0)]);
-        let words = lent.words.lent();
-        assert_eq!(words[..3], [7, u64::MAX, 0]);
-        assert_eq!(words[301..304], [2, 0, 0]);
-        let kept = before.clone().words.lent().to_vec();
-        assert_eq!(words[3..301], kept[3..301]);
-        assert_eq!(words[304..], kept[304..]);
-        assert_eq!(lent.plan(), before.clone().plan());
+        lent.write_words(&[Some(7), None, Some(0)]);
+        assert_eq!(lent.words.lent()[..3], [7, u64::MAX, 0]);
+        assert_eq!(lent.words.lent()[3..], before.words.lent()[3..]);
+        assert_eq!(lent.plan(), before.plan());
     }
 
     #[test]

@@ -3,7 +3,7 @@
 
 use crate::cost::{arc_cost, fault, Arc};
 use crate::plan::Chain;
-use crate::planner::{Choice, Planned, Tail, Ties};
+use crate::planner::{Choice, Planned, Ties};
 use crate::sheet::Sheet;
 use std::collections::HashMap;
 
@@ -91,19 +91,10 @@ fn choice(costs: &Costs, horizon: i64) -> Option<Choice> {
     Some(Choice { chain, total, ties })
 }
 
-fn tail(costs: &Costs, horizon: i64, from: i64) -> Tail {
-    let lists: Vec<(u64, Vec<i64>)> = all_ends(costs, horizon, from)
-        .into_iter()
-        .map(|ends| (replacements_total(costs, from, &ends), ends))
-        .collect();
-    let least = lists.iter().map(|(total, _)| *total).min();
-    let of_least = lists.iter().filter(|(total, _)| Some(*total) == least);
-    let chosen = of_least.map(|(_, ends)| ends).max();
-    let first_end = chosen.and_then(|ends| ends.first());
-    Tail {
-        total: least,
-        first_end: first_end.map_or(0, |&end| end as u64),
-    }
+fn tail(costs: &Costs, horizon: i64, from: i64) -> Option<u64> {
+    let lists = all_ends(costs, horizon, from).into_iter();
+    let totals = lists.map(|ends| replacements_total(costs, from, &ends));
+    totals.min()
 }
 
 fn replacements_total(costs: &Costs, from: i64, ends: &[i64]) -> u64 {

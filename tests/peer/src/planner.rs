@@ -7,15 +7,6 @@ use crate::plan::Chain;
 use crate::sheet::Sheet;
 use std::cmp::Reverse;
 
-/// Replacements alone from a year to the horizon.
-#[derive(Clone, Debug, PartialEq)]
-pub struct Tail {
-    /// The least total; none if no replacements lead there.
-    pub total: Option<u64>,
-    /// The end of the first of them, 0 if there is none.
-    pub first_end: u64,
-}
-
 /// Where chains of the least total differ: a chain other than the one chosen has another i; or
 /// the same i and another j; or the same i and j and other ends.
 #[derive(Clone, Copy, Debug, PartialEq)]
@@ -41,8 +32,9 @@ pub struct Choice {
 /// What there is to plan on a sheet that passes the check.
 #[derive(Clone, Debug, PartialEq)]
 pub struct Planned {
-    /// From each year, 0 to the horizon.
-    pub tails: Vec<Tail>,
+    /// The least total of replacements alone from each year, 0 to the horizon, to the horizon;
+    /// none if no replacements lead there.
+    pub tails: Vec<Option<u64>>,
     /// None if no chain is feasible.
     pub choice: Option<Choice>,
 }
@@ -54,19 +46,15 @@ pub fn planned(sheet: &Sheet) -> Planned {
     let horizon = sheet.horizon as usize;
     let costs = ArcCosts::of(sheet, 2);
     let replacements: Vec<Arcs> = (0..=horizon).map(|year| costs.from(year)).collect();
-    let left: Vec<Option<u64>> = (0..=horizon)
+    let tails: Vec<Option<u64>> = (0..=horizon)
         .map(|year| least_way(&replacements, year))
         .collect();
     let onward: Vec<Vec<usize>> = (0..=horizon)
-        .map(|year| ends_on_a_least_way(&replacements, &left, year))
+        .map(|year| ends_on_a_least_way(&replacements, &tails, year))
         .collect();
-    let tails = (0..=horizon).map(|year| Tail {
-        total: left[year],
-        first_end: onward[year].last().map_or(0, |&end| end as u64),
-    });
     Planned {
-        tails: tails.collect(),
-        choice: choice(&beginnings(sheet, &left), &onward),
+        choice: choice(&beginnings(sheet, &tails), &onward),
+        tails,
     }
 }
 
@@ -89,11 +77,11 @@ fn least_way(replacements: &[Arcs], from: usize) -> Option<u64> {
 }
 
 /// Where a first replacement can end on a way of least total, in rising order.
-fn ends_on_a_least_way(replacements: &[Arcs], left: &[Option<u64>], from: usize) -> Vec<usize> {
+fn ends_on_a_least_way(replacements: &[Arcs], tails: &[Option<u64>], from: usize) -> Vec<usize> {
     let arcs = replacements[from].iter();
     let lies_on = |&&(end, cost): &&(usize, u64)| {
-        let total = left[end].map(|rest| cost + rest);
-        total.is_some() && total == left[from]
+        let total = tails[end].map(|rest| cost + rest);
+        total.is_some() && total == tails[from]
     };
     arcs.filter(lies_on).map(|&(end, _)| end).collect()
 }
@@ -105,12 +93,12 @@ struct Beginning {
     total: u64,
 }
 
-fn beginnings(sheet: &Sheet, left: &[Option<u64>]) -> Vec<Beginning> {
+fn beginnings(sheet: &Sheet, tails: &[Option<u64>]) -> Vec<Beginning> {
     let renovated = ArcCosts::of(sheet, 1);
     let mut list = Vec::new();
     for (i, maintain) in with_length_0(0, ArcCosts::of(sheet, 0).from(0)) {
         for (j, renovate) in with_length_0(i, renovated.from(i)) {
-            if let Some(replace) = left[j] {
+            if let Some(replace) = tails[j] {
                 let total = maintain + renovate + replace;
                 list.push(Beginning { i, j, total });
             }
@@ -171,11 +159,6 @@ mod tests {
         choice.ties
     }
 
-    fn tails_of(sheet: &[u8]) -> Vec<(Option<u64>, u64)> {
-        let tails = planned_on(sheet).tails.into_iter();
-        tails.map(|tail| (tail.total, tail.first_end)).collect()
-    }
-
     #[test]
     fn cases_9_to_12() {
         assert_eq!(planned_on(&case_9()).choice, None);
@@ -187,20 +170,13 @@ mod tests {
     }
 
     #[test]
-    fn words_of_cases_9_and_12() {
-        let none = (None, 0);
-        let free = (Some(0), 5);
-        let last = (Some(0), 0);
-        assert_eq!(tails_of(&case_9()), [none, free, free, none, none, last]);
-        // One year costs 11, two 12, three 28: from year 1 both 2, 4 and 3, 4 cost 23.
-        let tails = [
-            (Some(240_000), 2),
-            (Some(230_000), 3),
-            (Some(120_000), 4),
-            (Some(110_000), 4),
-            last,
-        ];
-        assert_eq!(tails_of(&case_12()), tails);
+    fn tails_of_cases_9_and_12() {
+        let free = Some(0);
+        let tails = [None, free, free, None, None, free];
+        assert_eq!(planned_on(&case_9()).tails, tails);
+        // One year costs 11, two 12, three 28.
+        let tails = [240_000, 230_000, 120_000, 110_000, 0].map(Some);
+        assert_eq!(planned_on(&case_12()).tails, tails);
     }
 
     // The chain is that of the paper's Tables 5 and 6.

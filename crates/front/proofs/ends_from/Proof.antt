@@ -26,7 +26,7 @@ abbrev μ-loop : tie.MeasureT-loop
 short : (s : tie.Start Inv-loop μ-loop) → s .args .sheet .horizon ≤ 300
 short s = s .pre .0 .0 .fit .horizonHigh
 
--- the lent end of the first replacement from a year
+-- the end of the first replacement from a year
 abbrev first : tie.Start Inv-loop μ-loop → (y : ℕ) → ℕ
 first s y = getD (now (s .args .firsts)) y 0
 

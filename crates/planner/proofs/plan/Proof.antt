@@ -3,7 +3,7 @@
 use Prim.Native.Nat.{ℕ, _≤_}
 use mathlib.Core.Path.{_≡_, ap, sym, subst, _∙_}
 use native.Mathlib.Omega.{arith}
-use lib.ListN.{length, drop}
+use lib.ListN.{length}
 use denote.Ref.{now}
 use borrow.Author.Needs.{needs}
 use Rattle.base.specs.Answer.{refused}
@@ -13,10 +13,10 @@ use Rattle.checking.specs.Refusals.{checked}
 use Rattle.checking.specs.Passes.{Passes}
 use Rattle.checking.specs.Fit.{Fit, SheetFits}
 use Rattle.checking.proofs.FitLaws.{fit}
-use Rattle.tails.specs.Words.{wordsNeeded, firstsStart}
-use Rattle.front.specs.Front.{TailsLent, FirstsLent}
+use Rattle.tails.specs.Words.{wordsNeeded, totalOf, firstEnd}
+use Rattle.front.specs.Front.{TailsLent, FirstsHeld}
 use Rattle.planning.proofs.PlanningLaws.{plan-refused, plan-few, plan-on}
-use Rattle.planner.proofs.FoundLaws.{tails-lent, firsts-lent}
+use Rattle.planner.proofs.FoundLaws.{years-held}
 use Rattle.planner.proofs.Demands.{plan-answers}
 use Rattle.planner.proofs.plan.Statement.{statement}
 use Rattle.planner.proofs.plan.Tie as tie
@@ -57,20 +57,21 @@ fits c =
 
 lent :
     (c : tie.After-tail-words)
-    → TailsLent (c .before .before .parse .result) (c .tail-words .last .0)
-    × FirstsLent (c .before .before .parse .result) (drop firstsStart (c .tail-words .last .0))
+    → let q = c .before .before .before in
+    TailsLent (q .parse .result) (c .tail-words .last .0) × FirstsHeld (q .parse .result) (c .tail-words .last .1 .0)
 lent c =
-    let q = c .before .before in
+    let q = c .before .before .before in
+    let t = c .tail-words in
     let far = fits q .fit .horizonHigh in (
-      tails-lent _ far _ _ (enough (q .before)) (c .tail-words .kept .0) (c .tail-words .ensures .0),
-      firsts-lent _ far _ _ (enough (q .before)) (c .tail-words .kept .0) (c .tail-words .ensures .0),
+      years-held totalOf _ far _ _ (enough (q .before)) (t .ensures .0) (t .kept .0),
+      years-held firstEnd _ far _ _ (omega arith) (t .ensures .1 .0) (t .kept .1 .0),
     )
 
 returns-3 : tie.Need-returns-3
 returns-3 c =
     let w = c .before .before in
-    let t = w .before .before .before .before .before in
-    let q = t .before .before in
+    let t = w .before .before .before .before .before .before .before in
+    let q = t .before .before .before in
     let read = q .parse .ensures in
     plan-answers _ _ _
     (plan-on _ _ _ (passed (q .before .before)) (enough (q .before)) _ _ _ (w .write-chosen .ensures .0 _ read)
@@ -85,16 +86,21 @@ refused-requires c κs = search needs
 parse-requires : tie.Need-parse-requires
 parse-requires c κs = passes (c .before) .header .long
 
+slice-aggregate-tail-words : tie.Need-slice-aggregate-tail-words
+slice-aggregate-tail-words c = search needs
+
 tail-words-requires : tie.Need-tail-words-requires
 tail-words-requires c κs =
-    let q = c .before in
-    (fits q, enough (q .before))
+    let q = c .before .before in
+    (fits q, enough (q .before), omega arith)
+
+slice-aggregate-write-chosen : tie.Need-slice-aggregate-write-chosen
+slice-aggregate-write-chosen c = search needs
 
 write-chosen-requires : tie.Need-write-chosen-requires
 write-chosen-requires c κs =
-    let t = c .before .before .before .before in
-    let q = t .before .before in
-    (fits q, lent t .0, lent t .1)
+    let t = c .before .before .before .before .before .before in
+    (fits (t .before .before .before), lent t .0, lent t .1)
 
 same-length : tie.Need-same-length
 same-length c = search needs
@@ -111,7 +117,9 @@ plan-spec =
     refused-requires
     returns-2
     parse-requires
+    slice-aggregate-tail-words
     tail-words-requires
+    slice-aggregate-write-chosen
     write-chosen-requires
     same-length
     same-length-2

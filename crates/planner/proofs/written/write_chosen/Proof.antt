@@ -1,9 +1,9 @@
 -- The plan of the chosen chain: no chain, a buffer that is too short for it, or its plan written. Assumes nothing.
-use Prim.Native.Nat.{ℕ, _-_, _≤_}
-use mathlib.Core.Path.{_≡_, ap, sym, subst, _∙_}
+use Prim.Native.Nat.{ℕ, _≤_}
+use mathlib.Core.Path.{_≡_, ap, _∙_}
 use native.Mathlib.Omega.{arith}
-use lib.ListN.{length, drop, length-drop}
-use lib.Seq.{sets, take-all}
+use lib.ListN.{length}
+use lib.Seq.{sets}
 use denote.Ref.{now}
 use borrow.Author.Needs.{needs}
 use Rattle.base.specs.Answer.{accepted, refused}
@@ -12,9 +12,8 @@ use Rattle.sheet.specs.Parsed.{parsed}
 use Rattle.sheet.proofs.ParsedLaws.{horizon-read}
 use Rattle.choice.specs.Running.{noTotal}
 use Rattle.chain.specs.PlanBytes.{encode}
-use Rattle.tails.specs.Words.{firstsStart}
 use Rattle.front.specs.Planned.{planned}
-use Rattle.front.specs.Front.{front, FirstsLent}
+use Rattle.front.specs.Front.{front}
 use Rattle.front.specs.declared.Front.{Front}
 use Rattle.front.proofs.TakenLaws.{planned-begins}
 use Rattle.planning.specs.Planning.{found, planWith}
@@ -24,7 +23,7 @@ use Rattle.planner.proofs.written.write_chosen.Statement.{statement}
 use Rattle.planner.proofs.written.write_chosen.Tie as tie
 
 abbrev start : tie.After-best-front → tie.Start
-start c = c .before .before .before .before
+start c = c .before .before .before .before .before
 
 -- how the chain begins
 begins :
@@ -40,17 +39,17 @@ there c p read q = exists c (ap (λ (f : Front). f .total) (begins (c .before) p
 
 -- the ends that were followed are the chain's
 count-read :
-    (c : tie.After-ends-from) (p : PlanningSheet) → start (c .before .before .before .before) .args .sheet ≡ parsed p
+    (c : tie.After-ends-from) (p : PlanningSheet) → start (c .before .before .before) .args .sheet ≡ parsed p
     → length (found p .ends) ≡ c .ends-from .result
 count-read c p read =
-    let f = c .before .before .before .before in
-    found-count p (f .best-front .result) (begins f p read) (exists (c .before .before .before)) _ _ (c .ends-from .ensures p read)
+    let f = c .before .before .before in
+    found-count p (f .best-front .result) (begins f p read) (exists (c .before .before)) _ _ (c .ends-from .ensures p read)
 
 count-few : (c : tie.After-ends-from) → c .ends-from .result ≤ length (c .ends-from .last .0)
 count-few c =
-    let f = c .before .before .before .before in
+    let f = c .before .before .before in
     let some = start f .pre .0 in
-    found-few (some .sheet) (f .best-front .result) (begins f (some .sheet) (some .read)) (exists (c .before .before .before)) _ _
+    found-few (some .sheet) (f .best-front .result) (begins f (some .sheet) (some .read)) (exists (c .before .before)) _ _
     (c .ends-from .ensures (some .sheet) (some .read))
 
 -- no chain
@@ -67,7 +66,7 @@ returns c = (
 
 -- a buffer that is too short
 abbrev going : tie.After-ends2 → tie.Else1
-going c = c .before .before .before .before
+going c = c .before .before .before
 
 short :
     (c : tie.Then2) (p : PlanningSheet)
@@ -125,24 +124,15 @@ refused-requires c κs = search needs
 slice-aggregate-ends-from : tie.Need-slice-aggregate-ends-from
 slice-aggregate-ends-from c = search needs
 
-sub-ends-from : tie.Need-sub-ends-from
-sub-ends-from c = omega (arith, start (c .before .before) .pre .1 .room)
-
-part-ends-from-start : tie.Need-part-ends-from-start
-part-ends-from-start c = search needs
-
-part-ends-from-end : tie.Need-part-ends-from-end
-part-ends-from-end c = search needs
-
 ends-from-requires : tie.Need-ends-from-requires
 ends-from-requires c κs =
-    let f = c .before .before .before in
+    let f = c .before .before in
     let s = start f in
     let some = s .pre .0 in
     let T = horizon-read (s .args .sheet) (some .sheet) (some .read) in
-    let b = planned-begins (some .sheet) (f .best-front .result) (begins f (some .sheet) (some .read)) (exists (c .before .before)) in (
-      (some, subst (FirstsLent (s .args .sheet)) (sym (take-all (length (now (s .args .words)) - firstsStart) (drop firstsStart (now (s .args .words))) (simp length-drop (omega arith)))) (s .pre .2)),
-      (omega (arith, b .inside, T), λ p read. planned-begins p (f .best-front .result) (begins f p read) (exists (c .before .before)) .there, omega arith),
+    let b = planned-begins (some .sheet) (f .best-front .result) (begins f (some .sheet) (some .read)) (exists (c .before)) in (
+      (some, s .pre .2),
+      (omega (arith, b .inside, T), λ p read. planned-begins p (f .best-front .result) (begins f p read) (exists (c .before)) .there, omega arith),
     )
 
 mul-if2 : tie.Need-mul-if2
@@ -175,9 +165,6 @@ write-chosen-spec =
     refused-requires
     returns
     slice-aggregate-ends-from
-    sub-ends-from
-    part-ends-from-start
-    part-ends-from-end
     ends-from-requires
     mul-if2
     add-if2

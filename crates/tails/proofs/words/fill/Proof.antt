@@ -1,118 +1,104 @@
--- The words from T down: when year y has been reached, the words of the years from y on are written and no others. Assumes nothing.
-use Prim.Native.Nat.{ℕ, _+_, _-_, _≤_}
-use mathlib.Core.Path.{_≡_, ap, sym, _∙_}
+-- Every year from T down: when year y has been reached, which is even, the years from y on are written in both lists and no others. Assumes
+-- nothing.
+use Prim.Native.Nat.{ℕ, _%_, _≤_}
+use mathlib.Core.Path.{_≡_, sym, subst}
 use mathlib.Core.List.{List}
 use native.Mathlib.Omega.{arith}
-use lib.ListN.{getD, set, length, length-set}
+use lib.ListN.{length}
 use denote.Ref.{now}
-use Rattle.sheet.specs.Sheet.{PlanningSheet}
-use Rattle.sheet.specs.Parsed.{parsed}
 use Rattle.sheet.specs.declared.Sheet.{Sheet}
-use Rattle.sheet.proofs.ParsedLaws.{horizon-read}
-use Rattle.tails.specs.Words.{firstsStart, WordsHeld, wordsFrom}
-use Rattle.tails.proofs.WordLaws.{words-last, words-all, words-length, words-read, words-two}
+use Rattle.tails.specs.Words.{totalOf, firstEnd}
+use Rattle.tails.specs.Writing.{LastWritten}
+use Rattle.tails.proofs.WritingLaws.{last-two, last-length, last-all, last-held, fillable-on}
 use Rattle.tails.proofs.words.fill.Statement.{statement}
 use Rattle.tails.proofs.words.fill.Tie as tie
 
+-- what is written before the loop is written over any list over which it was written to the year at which the loop begins
 abbrev Inv-loop : tie.InvT-loop
-Inv-loop words₀ streams ages sheet discount horizon y₀ words y =
-    (y ≤ horizon)
-    × ((p : PlanningSheet) → sheet ≡ parsed p
-    → (ws : List ℕ) → words₀ ≡ set (set ws (p .horizon) 0) (firstsStart + p .horizon) 0 → words ≡ wordsFrom p (p .horizon - y) ws)
+Inv-loop words₀ firsts₀ streams ages sheet discount y₀ words firsts y =
+    (y % 2 ≡ 0)
+    × (y ≤ sheet .horizon)
+    × ((ws : List ℕ) → LastWritten totalOf sheet y₀ ws words₀ → LastWritten totalOf sheet y ws words)
+    × ((fs : List ℕ) → LastWritten firstEnd sheet y₀ fs firsts₀ → LastWritten firstEnd sheet y fs firsts)
 
 abbrev μ-loop : tie.MeasureT-loop
-μ-loop words₀ streams ages sheet discount horizon y₀ words y = y
+μ-loop words₀ firsts₀ streams ages sheet discount y₀ words firsts y = y
+
+abbrev first : tie.At-loop Inv-loop μ-loop → tie.After-last-years Inv-loop μ-loop
+first c = c .before .before .before .before .before
 
 abbrev start : tie.At-loop Inv-loop μ-loop → tie.Start Inv-loop μ-loop
-start c = c .before .before .before
+start c = first c .before .before .before .before .before .before
 
 abbrev sheet : tie.At-loop Inv-loop μ-loop → Sheet
 sheet c = start c .args .sheet
 
-abbrev entry : tie.At-loop Inv-loop μ-loop → List ℕ
-entry c = now (start c .args .words)
+-- both lists at the loop's head, over those at entry
+words-are : (c : tie.At-loop Inv-loop μ-loop) → LastWritten totalOf (sheet c) (c .loop .y) (now (start c .args .words)) (c .loop .words)
+words-are c = c .loop .inv .2 (now (start c .args .words)) (first c .last-years .ensures .1 .0)
 
--- the words at the loop's head, over those at entry
-words-are :
-    (c : tie.At-loop Inv-loop μ-loop) (p : PlanningSheet) → sheet c ≡ parsed p
-    → c .loop .words ≡ wordsFrom p (p .horizon - c .loop .y) (entry c)
-words-are c p read =
-    c .loop .inv .1 p read (entry c) (ap (λ (t : ℕ). set (set (entry c) t 0) (firstsStart + t) 0) (horizon-read (sheet c) p read))
+firsts-are : (c : tie.At-loop Inv-loop μ-loop) → LastWritten firstEnd (sheet c) (c .loop .y) (now (start c .args .firsts)) (c .loop .firsts)
+firsts-are c = c .loop .inv .3 (now (start c .args .firsts)) (first c .last-years .ensures .1 .1)
 
-long : (c : tie.At-loop Inv-loop μ-loop) → length (c .loop .words) ≡ length (entry c)
-long c =
-    let some = start c .pre .0 .0 in
-    ap length (words-are c (some .sheet) (some .read)) ∙ words-length (some .sheet) (entry c) (some .sheet .horizon - c .loop .y)
+words-long : (c : tie.At-loop Inv-loop μ-loop) → length (c .loop .words) ≡ length (now (start c .args .words))
+words-long c = last-length totalOf (sheet c) (now (start c .args .words)) (c .loop .y) (c .loop .words) (words-are c) (start c .pre .sheet)
 
-short : (s : tie.Start Inv-loop μ-loop) → s .args .sheet .horizon ≤ 300
-short s = s .pre .0 .0 .fit .horizonHigh
+firsts-long : (c : tie.At-loop Inv-loop μ-loop) → length (c .loop .firsts) ≡ length (now (start c .args .firsts))
+firsts-long c = last-length firstEnd (sheet c) (now (start c .args .firsts)) (c .loop .y) (c .loop .firsts) (firsts-are c) (start c .pre .sheet)
 
--- those of the years reached are the totals of the table
-held : (c : tie.At-loop Inv-loop μ-loop) (p : PlanningSheet) → sheet c ≡ parsed p → WordsHeld p (c .loop .y) (c .loop .words)
-held c p read e late inside =
-    let T = horizon-read (sheet c) p read in
-    ap (λ (l : List ℕ). getD l e 0) (words-are c p read)
-    ∙ words-read p (entry c) (omega (arith, T, short (start c))) (start c .pre .1 .1) (c .loop .y) e late inside .0
+returns : tie.Need-returns Inv-loop μ-loop
+returns c =
+    let a = c .before in (
+      last-all totalOf (sheet a) (now (start a .args .words)) (a .loop .y) (a .loop .words) (words-are a) (omega arith),
+      last-all firstEnd (sheet a) (now (start a .args .firsts)) (a .loop .y) (a .loop .firsts) (firsts-are a) (omega arith),
+    )
 
 loop-again : tie.Need-loop-again Inv-loop μ-loop
 loop-again c =
-    let a = c .before .before .before .before .before in
-    let t = c .before .before .two-years in (
-      omega (arith, t .ensures .0),
-      λ p read ws q.
-          let T = horizon-read (sheet a) p read in
-          let left : p .horizon - (a .loop .y - 1 - 1) ≡ p .horizon - t .result = omega (arith, t .ensures .0) in
-          t .ensures .1 p read
-          ∙ words-two p ws (omega (arith, T, short (start a)))
-          (omega (arith, simp length-set at (ap length q), start a .pre .1 .1)) (a .loop .y) (omega arith) (omega (arith, T)) (a .loop .words) (a .loop .inv .1 p read ws q)
-          ∙ ap (λ (n : ℕ). wordsFrom p n ws) left,
+    let t = c .before .before .before .before in
+    let a = t .before .before .before .before in
+    let inv = a .loop .inv in
+    let y = a .loop .y in
+    let pair : 2 ≤ y = omega (arith, inv .0) in (
+      omega (arith, t .two-years .ensures .0, inv .0),
+      omega (arith, t .two-years .ensures .0, inv .1),
+      λ ws h.
+          subst (λ (r : ℕ). LastWritten totalOf (sheet a) r ws (t .two-years .last .0)) (sym (t .two-years .ensures .0))
+          (last-two totalOf (sheet a) ws y (inv .1) (a .loop .words) (inv .2 ws h) (t .two-years .last .0) pair (t .two-years .ensures .1 .0)),
+      λ fs h.
+          subst (λ (r : ℕ). LastWritten firstEnd (sheet a) r fs (t .two-years .last .1 .0)) (sym (t .two-years .ensures .0))
+          (last-two firstEnd (sheet a) fs y (inv .1) (a .loop .firsts) (inv .3 fs h) (t .two-years .last .1 .0) pair (t .two-years .ensures .1 .1)),
     )
-
-returns : tie.Need-returns Inv-loop μ-loop
-returns c p read =
-    let a = c .before in
-    let all : p .horizon - a .loop .y ≡ p .horizon = omega arith in
-    words-are a p read ∙ ap (λ (n : ℕ). wordsFrom p n (entry a)) all ∙ words-all p (entry a)
-
-mul-words : tie.Need-mul-words Inv-loop μ-loop
-mul-words c = omega (arith, short (c .before .before))
-
-slice-write-words : tie.Need-slice-write-words Inv-loop μ-loop
-slice-write-words c = omega (arith, short (c .before .before), c .before .before .pre .1 .1)
-
-add-words : tie.Need-add-words Inv-loop μ-loop
-add-words c = omega (arith, short (c .before .before))
-
-mul-words-2 : tie.Need-mul-words-2 Inv-loop μ-loop
-mul-words-2 c = omega (arith, short (c .before .before))
-
-slice-write-words-2 : tie.Need-slice-write-words-2 Inv-loop μ-loop
-slice-write-words-2 c = simp length-set (omega (arith, short (c .before .before), c .before .before .pre .1 .1))
-
-loop-holds : tie.Need-loop-holds Inv-loop μ-loop
-loop-holds c = (
-  omega arith,
-  λ p read ws q.
-      let none : 0 ≡ p .horizon - c .before .before .args .sheet .horizon = omega (arith, horizon-read _ p read) in
-      q ∙ sym (words-last p ws) ∙ ap (λ (n : ℕ). wordsFrom p n ws) none,
-)
 
 two-years-requires : tie.Need-two-years-requires Inv-loop μ-loop
 two-years-requires c κs =
-    let a = c .before .before in
-    let s = start a in (
-      s .pre .0,
+    let a = c .before .before .before in
+    let s = start a in
+    let words = now (s .args .words) in (
+      fillable-on (sheet a) (s .args .discount) (now (s .args .streams)) (now (s .args .ages)) words (now (s .args .firsts)) (a .loop .words)
+          (a .loop .firsts) (s .pre) (words-long a) (firsts-long a),
       (
-        (s .pre .1 .0, omega (arith, long a, s .pre .1 .1)),
-        (omega arith, omega arith, held a),
+        omega (arith, a .loop .inv .0),
+        a .loop .inv .1,
+        last-held (sheet a) (a .loop .y) words (a .loop .words) (omega (arith, s .pre .sheet .fit .horizonHigh, s .pre .enough)) (words-are a),
       ),
     )
 
+last-years-requires : tie.Need-last-years-requires Inv-loop μ-loop
+last-years-requires c κs = c .before .before .before .before .before .pre
+
+loop-holds : tie.Need-loop-holds Inv-loop μ-loop
+loop-holds c =
+    let l = c .before .before .before .before .last-years in (l .ensures .0 .0, l .ensures .0 .1, λ ws h. h, λ fs h. h)
+
 loop-less : tie.Need-loop-less Inv-loop μ-loop
-loop-less c = omega (arith, c .before .before .two-years .ensures .0)
+loop-less c = omega (arith, c .before .before .before .before .two-years .ensures .0)
 
 same-length : tie.Need-same-length Inv-loop μ-loop
-same-length c = long (c .before)
+same-length c = words-long (c .before)
+
+same-length-2 : tie.Need-same-length-2 Inv-loop μ-loop
+same-length-2 c = firsts-long (c .before)
 
 pub fill-spec : {M : Type 1} → statement M
 fill-spec =
@@ -120,14 +106,11 @@ fill-spec =
     (tie.spec
     Inv-loop
     μ-loop
-    mul-words
-    slice-write-words
-    add-words
-    mul-words-2
-    slice-write-words-2
+    last-years-requires
     loop-holds
     two-years-requires
     loop-less
     loop-again
     same-length
+    same-length-2
     returns)

@@ -1,222 +1,201 @@
--- The words of the two years before one: those of the later year are written first, by the words behind them, and the choice from the earlier
--- year goes by these too. Assumes nothing.
-use Prim.Native.Nat.{ℕ, _-_, _≤_, _<_, min}
-use mathlib.Core.Path.{_≡_, ap, sym, subst, _∙_}
-use mathlib.Core.List.{List}
+-- Two years: the later one is written first, by the words behind it, and the choice from the earlier one goes by its word too. Assumes nothing.
+use Prim.Native.Nat.{ℕ, _+_, _-_, _≤_, _<_, min}
+use mathlib.Core.Path.{_≡_, refl, ap, sym, subst, _∙_}
 use native.Mathlib.Omega.{arith}
 use lib.ListN.{length}
 use denote.Ref.{now}
 use borrow.Author.Needs.{needs}
-use Rattle.sheet.specs.Sheet.{PlanningSheet, replace}
-use Rattle.sheet.specs.Parsed.{parsed}
+use Rattle.sheet.specs.Sheet.{replace}
 use Rattle.sheet.specs.declared.Sheet.{Sheet}
-use Rattle.sheet.proofs.ParsedLaws.{horizon-read}
-use Rattle.checking.specs.Fit.{Fit}
-use Rattle.steps.specs.Fit.{Divides}
 use Rattle.costing.specs.Arc.{keptOf, keptFrom}
 use Rattle.costing.specs.Fit.{KeptFits}
 use Rattle.costing.specs.declared.Kept.{Kept}
-use Rattle.costing.proofs.SheetArcLaws.{keptOf-fits}
-use Rattle.choice.specs.Running.{noEntry}
-use Rattle.streams.specs.Streams.{Streams}
-use Rattle.weighing.specs.Best.{inShort}
-use Rattle.weighing.specs.Ends.{bestTo, CostsTo, wordOf, WordsBehind}
+use Rattle.weighing.specs.Ends.{CostsTo, WordsBehind}
 use Rattle.weighing.proofs.ArcCostLaws.{kept-from-fits, costs-to}
-use Rattle.tails.specs.Tail.{tailFrom}
-use Rattle.tails.specs.Words.{wordsNeeded, withBest, withYear}
-use Rattle.tails.proofs.WordLaws.{held-next}
-use Rattle.tails.proofs.YearLaws.{year-best, words-fit}
+use Rattle.tails.specs.Words.{wordsNeeded, totalOf, firstEnd}
+use Rattle.tails.specs.Writing.{WordsHeld, YearWritten}
+use Rattle.tails.proofs.WritingLaws.{held-next}
+use Rattle.tails.proofs.YearLaws.{Walks, year-best, words-behind, replace-walks, two-written}
 use Rattle.tails.proofs.words.two_years.Statement.{statement}
 use Rattle.tails.proofs.words.two_years.Tie as tie
 
-abbrev start : tie.After-one-less → tie.Start
-start c = c .before .before .before
+abbrev start : tie.After-kept-of → tie.Start
+start c = c .before .before .before .before
 
-abbrev sheet : tie.Start → Sheet
-sheet s = s .args .sheet
+abbrev sheet : tie.After-kept-of → Sheet
+sheet c = start c .args .sheet
 
-short : (s : tie.Start) → sheet s .horizon ≤ 300
-short s = s .pre .0 .0 .fit .horizonHigh
+-- the later of the two years
+abbrev late : tie.After-kept-of → ℕ
+late c = start c .args .reached - 1
 
--- the option replace, kept from the earlier year, and from the later one: what holds of it holds of what the code has made
-of-kept :
-    (c : tie.After-kept-of) (P : Kept → Type 0) → P (keptOf (sheet (start (c .before))) replace (c .before .one-less .result)) → P (c .kept-of .result)
-of-kept c P h = subst P (sym (c .kept-of .ensures)) h
+-- the place at which the option has been made, before the arcs are walked
+abbrev made : tie.After-two-starts → tie.After-starting
+made c = c .before .before .before .before .before
 
-of-next : (c : tie.After-starting) (P : Kept → Type 0) → P (keptFrom (c .before .kept-of .result) (start (c .before .before) .args .reached - 1)) → P (c .starting .result)
-of-next c P h = subst P (sym (c .starting .ensures)) h
+short : (c : tie.After-kept-of) → sheet c .horizon ≤ 300
+short c = start c .pre .0 .sheet .fit .horizonHigh
 
-next-is :
-    (c : tie.After-starting) → let s = start (c .before .before) in c .starting .result ≡ keptOf (sheet s) replace (s .args .reached - 1)
-next-is c =
-    let s = start (c .before .before) in
-    c .starting .ensures ∙ ap (λ (k : Kept). keptFrom k (s .args .reached - 1)) (c .before .kept-of .ensures)
-
-fits : (c : tie.After-kept-of) → KeptFits (c .kept-of .result)
-fits c =
-    let s = start (c .before) in
-    of-kept c KeptFits (keptOf-fits (sheet s) (s .pre .0 .0 .fit) replace (c .before .one-less .result) (omega arith) (omega (arith, c .before .one-less .ensures)))
-
-from-is : (c : tie.After-kept-of) → c .kept-of .result .from ≡ c .before .one-less .result
-from-is c = ap (λ (k : Kept). k .from) (c .kept-of .ensures)
+early : (c : tie.After-kept-of) → late c < sheet c .horizon
+early c = omega (arith, start c .pre .1 .0, start c .pre .1 .1)
 
 -- the words behind the later year
-held :
-    (s : tie.Start) (p : PlanningSheet) → sheet s ≡ parsed p
-    → (e : ℕ) → s .args .reached - 1 < e → e ≤ sheet s .horizon → wordOf (now (s .args .words)) e ≡ tailFrom p e .total
-held s p read e late inside = s .pre .1 .1 .2 p read e (omega arith) (omega (arith, horizon-read (sheet s) p read))
+held : (c : tie.After-kept-of) → WordsHeld (sheet c) (late c + 1) (now (start c .args .words))
+held c p read e l u = start c .pre .1 .2 p read e (omega (arith, start c .pre .1 .0)) u
 
-kept-of-requires : tie.Need-kept-of-requires
-kept-of-requires c κs = omega arith
+-- the option replace, kept from the earlier year, and from the later one: what holds of it holds of what the code has made
+of-kept : (c : tie.After-kept-of) (P : Kept → Type 0) → P (keptOf (sheet c) replace (start c .args .reached - 2)) → P (c .kept-of .result)
+of-kept c P h = subst P (sym (c .kept-of .ensures)) h
 
-starting-requires : tie.Need-starting-requires
-starting-requires c κs = tt
+from-is : (c : tie.After-kept-of) → c .kept-of .result .from ≡ start c .args .reached - 2
+from-is c = ap (λ (k : Kept). k .from) (c .kept-of .ensures)
+
+next-is : (c : tie.After-starting) → c .starting .result ≡ keptOf (sheet (c .before)) replace (late (c .before))
+next-is c = c .starting .ensures ∙ ap (λ (k : Kept). keptFrom k (late (c .before))) (c .before .kept-of .ensures)
+
+from-next : (c : tie.After-starting) → c .starting .result .from ≡ late (c .before)
+from-next c = ap (λ (k : Kept). k .from) (next-is c)
+
+of-next : (c : tie.After-starting) (P : Kept → Type 0) → P (keptFrom (c .before .kept-of .result) (late (c .before))) → P (c .starting .result)
+of-next c P h = subst P (sym (c .starting .ensures)) h
+
+walks : (c : tie.After-kept-of) → let s = start c in Walks (sheet c) (s .args .discount) (now (s .args .streams)) (now (s .args .ages)) (c .kept-of .result)
+walks c =
+    let s = start c in
+    let streams = now (s .args .streams) in
+    let ages = now (s .args .ages) in
+    of-kept c (Walks (sheet c) (s .args .discount) streams ages)
+    (replace-walks (sheet c) (s .args .discount) streams ages (now (s .args .words)) (now (s .args .firsts)) (s .pre .0) (s .args .reached - 2)
+    (omega (arith, s .pre .1 .1)))
+
+fits : (c : tie.After-kept-of) → KeptFits (c .kept-of .result)
+fits c = walks c .0 .steps .fits
 
 two-starts-requires : tie.Need-two-starts-requires
 two-starts-requires c κs =
     let k = c .before .before .before .before .before in
-    let b = k .before in
-    let s = start b in
-    let d = s .args .discount in
-    let T = sheet s .horizon in
-    let lent = s .pre .1 .0 .0 in
-    let top = c .before .before .smaller .ensures in
-    let from = from-is k in (
-      record {
-        steps = record { fits = fits k; divides = of-kept k (λ a. Divides d (a .discount)) (s .pre .0 .1) };
-        ages = of-kept k (λ a. now (s .args .ages) ≡ a .terms .overhauls .ages) (lent .1);
-      },
+    let s = start k in
+    let top = c .before .before .smaller .ensures in (
+      walks k .0,
       (
-        (of-kept k (λ a. Streams (a .discount) (a .terms) T (now (s .args .streams))) (lent .0), short s, omega (arith, top, fits k .terms .longest)),
+        (walks k .1, short k, omega (arith, top, fits k .terms .longest)),
         (
-          (omega (arith, from, b .one-less .ensures), omega arith, omega (arith, b .one-less .ensures, top)),
+          (omega (arith, from-is k), omega (arith, s .pre .1 .0, s .pre .1 .1), omega (arith, top, s .pre .1 .0, s .pre .1 .1)),
           (search needs, search needs),
         ),
       ),
     )
 
--- the place at which the option has been made, before the arcs are walked; how many years are walked
-abbrev made : tie.After-two-starts → tie.After-starting
-made c = c .before .before .before .before .before
-
+-- how many years are walked
 top :
     (c : tie.After-two-starts)
     → let k = made c .before in
-    c .before .before .before .smaller .result ≡ min (k .kept-of .result .terms .longest) (sheet (start (k .before)) .horizon - k .kept-of .result .from)
+    c .before .before .before .smaller .result ≡ min (k .kept-of .result .terms .longest) (sheet k .horizon - k .kept-of .result .from)
 top c =
     let k = made c .before in
     c .before .before .before .smaller .ensures
-    ∙ ap (λ (n : ℕ). min (k .kept-of .result .terms .longest) (sheet (start (k .before)) .horizon - n)) (sym (from-is k))
+    ∙ ap (λ (n : ℕ). min (k .kept-of .result .terms .longest) (sheet k .horizon - n)) (sym (from-is k))
 
 word-requires : tie.Need-word-requires
 word-requires c κs =
-    let t = c .before .before .before .before in
+    let t = c .before .before .before .before .before in
     let m = made t in
     let k = m .before in
-    let b = k .before in
-    let s = start b in
-    let y = s .args .reached - 1 in
-    let T = sheet s .horizon in
-    let some = s .pre .0 .0 in (
-      (
-        record {
-          fits = of-next m KeptFits (kept-from-fits (k .kept-of .result) (fits k) y (omega (arith, short s)));
-          known =
-              of-next m (λ a. CostsTo a T (t .two-starts .last .1 .0))
-              (costs-to (k .kept-of .result) y T _ (t .two-starts .last .1 .0) (top t) (omega (arith, from-is k, b .one-less .ensures)) (t .two-starts .ensures .1));
-          room = omega (arith, t .two-starts .kept .1 .0);
-        },
-        of-next m (λ a. WordsBehind a T (now (s .args .words)))
-            (record {
-              early = omega arith;
-              far = short s;
-              room = omega (arith, short s, s .pre .1 .0 .1);
-              fits =
-                  words-fit (some .sheet) (subst Fit (some .read) (some .fit)) T y (now (s .args .words))
-                  (horizon-read (sheet s) (some .sheet) (some .read)) (held s (some .sheet) (some .read));
-            }),
-      ),
-      s .pre .1 .0 .1,
+    let s = start k in
+    let T = sheet k .horizon in
+    let some = s .pre .1 in (
+      record {
+        fits = of-next m KeptFits (kept-from-fits (k .kept-of .result) (fits k) (late k) (omega (arith, short k, some .1)));
+        known =
+            of-next m (λ a. CostsTo a T (t .two-starts .last .1 .0))
+            (costs-to (k .kept-of .result) (late k) T _ (t .two-starts .last .1 .0) (top t) (omega (arith, from-is k)) (t .two-starts .ensures .1));
+        room = omega (arith, t .two-starts .kept .1 .0);
+      },
+      subst (λ (a : Kept). WordsBehind a T (now (s .args .words))) (sym (next-is m))
+          (words-behind (sheet k) (now (s .args .words)) (s .pre .0 .sheet) (keptOf (sheet k) replace (late k)) (early k)
+          (s .pre .0 .enough) (held k)),
+      s .pre .0 .places,
     )
 
--- the words when those of the later year are written
-first :
-    (c : tie.After-word) (p : PlanningSheet)
-    → let s = start (made (c .before .before .before .before .before) .before .before) in
-    sheet s ≡ parsed p → c .word .last .0 ≡ withYear p (s .args .reached - 1) (now (s .args .words))
-first c p read =
-    let m = made (c .before .before .before .before .before) in
-    let s = start (m .before .before) in
-    let words = now (s .args .words) in
-    year-best p (sheet s) read words (s .args .reached - 1) (omega arith) (held s p read)
-    (c .word .ensures ∙ ap (λ (a : Kept). withBest (a .from) (bestTo a (sheet s .horizon) (wordOf words) (inShort noEntry)) words) (next-is m))
+-- when those of the later year are written
+abbrev option : tie.After-word → tie.After-starting
+option c = made (c .before .before .before .before .before .before)
 
--- what stands in them from that year on
-behind :
-    (c : tie.After-word) (p : PlanningSheet)
-    → let s = start (made (c .before .before .before .before .before) .before .before) in
-    sheet s ≡ parsed p → (e : ℕ) → s .args .reached - 1 ≤ e → e ≤ sheet s .horizon → wordOf (c .word .last .0) e ≡ tailFrom p e .total
-behind c p read e late inside =
-    let s = start (made (c .before .before .before .before .before) .before .before) in
-    let T = horizon-read (sheet s) p read in
-    ap (λ (l : List ℕ). wordOf l e) (first c p read)
-    ∙ held-next p (now (s .args .words)) (s .args .reached - 1) (omega (arith, short s)) (s .pre .1 .0 .1) (omega (arith, short s, T))
-    (λ e l m. held s p read e (omega arith) (omega (arith, T))) e late (omega (arith, T))
+first-words :
+    (c : tie.After-word)
+    → let k = option c .before in YearWritten totalOf (sheet k) (late k) (now (start k .args .words)) (c .word .last .0)
+first-words c =
+    let k = option c .before in
+    let words = now (start k .args .words) in
+    year-best (sheet k) words (λ best. best .total) words (late k) _ _ _ (next-is (option c)) refl (early k) (held k) (c .word .ensures .0)
+    (from-next (option c))
+
+first-firsts :
+    (c : tie.After-word)
+    → let k = option c .before in YearWritten firstEnd (sheet k) (late k) (now (start k .args .firsts)) (c .word .last .1 .0)
+first-firsts c =
+    let k = option c .before in
+    year-best (sheet k) (now (start k .args .words)) (λ best. best .end) (now (start k .args .firsts)) (late k) _ _ _ (next-is (option c)) refl (early k) (held k)
+    (c .word .ensures .1) (from-next (option c))
+
+-- the words behind the earlier year
+behind : (c : tie.After-word) → let k = option c .before in WordsHeld (sheet k) (start k .args .reached - 2 + 1) (c .word .last .0)
+behind c =
+    let k = option c .before in
+    let next : late k ≡ start k .args .reached - 2 + 1 = omega (arith, start k .pre .1 .0) in
+    subst (λ (y : ℕ). WordsHeld (sheet k) y (c .word .last .0)) next
+    (held-next (sheet k) (now (start k .args .words)) (c .word .last .0) (late k)
+    (omega (arith, short k, start k .pre .0 .enough, start k .pre .1 .1)) (held k) (first-words c))
 
 word-requires-2 : tie.Need-word-requires-2
 word-requires-2 c κs =
-    let w = c .before .before .before .before in
-    let t = w .before .before .before .before .before in
-    let k = made t .before in
-    let b = k .before in
-    let s = start b in
-    let T = sheet s .horizon in
-    let some = s .pre .0 .0 in
-    let from = from-is k in
-    let long : wordsNeeded ≤ length (w .word .last .0) = omega (arith, w .word .kept .0, s .pre .1 .0 .1) in (
-      (
-        record {
-          fits = fits k;
-          known = costs-to (k .kept-of .result) (k .kept-of .result .from) T _ (t .two-starts .last .0) (top t) (omega arith) (t .two-starts .ensures .0);
-          room = omega (arith, t .two-starts .kept .0);
-        },
-        record {
-          early = omega (arith, from, b .one-less .ensures);
-          far = short s;
-          room = omega (arith, short s, long);
-          fits =
-              words-fit (some .sheet) (subst Fit (some .read) (some .fit)) T (k .kept-of .result .from) (w .word .last .0)
-              (horizon-read (sheet s) (some .sheet) (some .read))
-              (λ e late inside. behind w (some .sheet) (some .read) e (omega (arith, from, b .one-less .ensures)) inside);
-        },
-      ),
-      long,
+    let w = c .before .before .before .before .before .before .before in
+    let t = w .before .before .before .before .before .before in
+    let k = option w .before in
+    let s = start k in
+    let T = sheet k .horizon in
+    let long : wordsNeeded ≤ length (w .word .last .0) = omega (arith, w .word .kept .0, s .pre .0 .enough) in (
+      record {
+        fits = fits k;
+        known = costs-to (k .kept-of .result) (k .kept-of .result .from) T _ (t .two-starts .last .0) (top t) (omega arith) (t .two-starts .ensures .0);
+        room = omega (arith, t .two-starts .kept .0);
+      },
+      of-kept k (λ a. WordsBehind a T (w .word .last .0))
+          (words-behind (sheet k) (w .word .last .0) (s .pre .0 .sheet) (keptOf (sheet k) replace (s .args .reached - 2))
+          (omega (arith, s .pre .1 .0, s .pre .1 .1)) long (behind w)),
+      omega (arith, w .word .kept .1 .0, s .pre .0 .places),
     )
 
 returns : tie.Need-returns
 returns c =
-    let v = c .before .before in
-    let w = v .before .before .before .before .before in
-    let k = made (w .before .before .before .before .before) .before in
-    let b = k .before in
-    let s = start b in
-    let y = b .one-less .result in
-    let words = w .word .last .0 in (
-      b .one-less .ensures,
-      λ p read.
-          year-best p (sheet s) read words y (omega (arith, b .one-less .ensures))
-          (λ e late inside. behind w p read e (omega (arith, b .one-less .ensures)) inside)
-          (v .word2 .ensures
-          ∙ ap (λ (a : Kept). withBest (a .from) (bestTo a (sheet s .horizon) (wordOf words) (inShort noEntry)) words) (k .kept-of .ensures))
-          ∙ ap (withYear p y) (first w p read)
-          ∙ ap (λ (y : ℕ). withYear p y (withYear p (s .args .reached - 1) (now (s .args .words)))) (b .one-less .ensures),
+    let v = c .before .before .before .before in
+    let w = v .before .before .before .before .before .before .before .before in
+    let k = option w .before in
+    let s = start k in
+    let y = s .args .reached - 2 in
+    let words = w .word .last .0 in
+    let firsts = w .word .last .1 .0 in
+    let before : y < sheet k .horizon = omega (arith, s .pre .1 .0, s .pre .1 .1) in (
+      refl,
+      (
+        two-written totalOf (sheet k) (s .args .reached) (now (s .args .words)) words _ (first-words w)
+            (year-best (sheet k) words (λ best. best .total) words y _ _ _ (k .kept-of .ensures) refl before (behind w) (v .word2 .ensures .0) (from-is k)),
+        two-written firstEnd (sheet k) (s .args .reached) (now (s .args .firsts)) firsts _ (first-firsts w)
+            (year-best (sheet k) words (λ best. best .end) firsts y _ _ _ (k .kept-of .ensures) refl before (behind w) (v .word2 .ensures .1) (from-is k)),
+      ),
     )
 
 sub-start : tie.Need-sub-start
 sub-start c = search needs
 
-one-less-requires : tie.Need-one-less-requires
-one-less-requires c κs = search needs
+sub-from : tie.Need-sub-from
+sub-from c = search needs
+
+kept-of-requires : tie.Need-kept-of-requires
+kept-of-requires c κs = search needs
+
+starting-requires : tie.Need-starting-requires
+starting-requires c κs = search needs
 
 sub-smaller : tie.Need-sub-smaller
 sub-smaller c = search needs
@@ -239,12 +218,15 @@ slice-aggregate-word-2 c = search needs
 same-length : tie.Need-same-length
 same-length c = search needs
 
+same-length-2 : tie.Need-same-length-2
+same-length-2 c = search needs
+
 pub two-years-spec : {M : Type 1} → statement M
 two-years-spec =
     tie.close
     (tie.spec
     sub-start
-    one-less-requires
+    sub-from
     kept-of-requires
     starting-requires
     sub-smaller
@@ -257,4 +239,5 @@ two-years-spec =
     slice-aggregate-word-2
     word-requires-2
     same-length
+    same-length-2
     returns)

@@ -28,18 +28,6 @@ mul-w c = search needs
 array-write-w : tie.Need-array-write-w Inv-loop μ-loop
 array-write-w c = search needs
 
-first-end-requires : tie.Need-first-end-requires Inv-loop μ-loop
-first-end-requires c κs = search needs
-
-add-w : tie.Need-add-w Inv-loop μ-loop
-add-w c = search needs
-
-mul-w-2 : tie.Need-mul-w-2 Inv-loop μ-loop
-mul-w-2 c = search needs
-
-array-write-w-2 : tie.Need-array-write-w-2 Inv-loop μ-loop
-array-write-w-2 c = search needs
-
 add-y : tie.Need-add-y Inv-loop μ-loop
 add-y c = search needs
 
@@ -64,10 +52,6 @@ words-spec =
     least-requires
     mul-w
     array-write-w
-    first-end-requires
-    add-w
-    mul-w-2
-    array-write-w-2
     add-y
     loop-less
     loop-again
