@@ -1,5 +1,5 @@
 -- The choice of a replacement from a year, by words that have the totals of the later years, is the table's (`tail-best`), and so is the figure
--- of it that is written to a list (`year-best`), for two years one after the other too (`two-written`). Words that have those totals leave room
+-- of it that is stored in a list (`store-same`, `year-best`), for two years one after the other too (`two-written`). Words that have those totals leave room
 -- (`words-fit`) and are what the choice asks (`words-behind`), and the arcs to be weighed can be walked (`replace-walks`). Assumes nothing.
 use Prim.Native.Nat.{ℕ, _+_, _-_, _≤_, _<_}
 use mathlib.Core.Path.{_≡_, ap, sym, subst, _∙_}
