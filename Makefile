@@ -12,7 +12,7 @@ DESTDIR ?=
 SHEET ?= examples/pumping-station.txt
 CFLAGS ?= -O2
 
-version = 1.3.0
+version = 1.4.0
 archive = target/staticlib/libnimovalsa.a
 planshow = target/bin/planshow
 headers = include/nimovalsa.h include/nimovalsa_sheet.h

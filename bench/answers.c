@@ -13,15 +13,46 @@ static const struct {
     struct shape shape;
     unsigned sheets;
 } shapes[] = {
-    {{"small", 12, 6, MOST_AMOUNT, -100000, 200000}, 2000},
-    {{"middle", 60, 30, MOST_AMOUNT, -100000, 200000}, 1000},
-    {{"large", MOST_YEARS, MOST_LIFE, MOST_AMOUNT, -100000, 200000}, 400},
-    {{"free", 30, 12, 0, -100000, 200000}, 500},
-    {{"equal totals", 30, 12, 2, 0, 0}, 1500},
+    {{"small", 12, 6, MOST_AMOUNT, -100000, 200000, 0}, 2000},
+    {{"middle", 60, 30, MOST_AMOUNT, -100000, 200000, 0}, 1000},
+    {{"large", MOST_YEARS, MOST_LIFE, MOST_AMOUNT, -100000, 200000, 0}, 400},
+    {{"free", 30, 12, 0, -100000, 200000, 0}, 500},
+    {{"equal totals", 30, 12, 2, 0, 0, 0}, 1500},
+    {{"ageing, small", 12, 6, MOST_AMOUNT, -100000, 200000, 1}, 1000},
+    {{"ageing, large", MOST_YEARS, MOST_LIFE, MOST_AMOUNT, -100000, 200000, 1}, 100},
 };
 
 /* The counts of words: none; one too few, enough, and one more; and around twice as many as are enough. */
 static const size_t word_counts[] = {0, 300, 301, 302, 601, 602};
+
+/* By kind of call: how many figures would be others if the motors of renovations were new. */
+static unsigned long with_old_motors[PLAN + 1];
+
+/* Counts the figure of a call if its renovation costs another one than a replacement with the same record,
+ * whose motors are new. */
+static void count_motors(enum kind kind, struct bytes sheet, struct arc arc)
+{
+    const struct planner *by = &planners[PLAIN];
+    uint8_t same[NIMOVALSA_SHEET_BYTES];
+    uint64_t old, new;
+
+    if (arc.option != RENOVATE || arc.start == arc.end)
+        return;
+    memcpy(same, sheet.at, sizeof same);
+    memcpy(record_of(same, REPLACE), record_of(same, RENOVATE), RECORD_BYTES);
+    old = by->cost(same, sizeof same, RENOVATE, arc.start, arc.end);
+    new = by->cost(same, sizeof same, REPLACE, arc.start, arc.end);
+    if (old != new)
+        with_old_motors[kind]++;
+}
+
+/* The same of the figure of a plan. */
+static void count_motors_of_plan(enum kind kind, struct bytes sheet, const uint8_t *plan)
+{
+    uint64_t i = (uint64_t)get16(plan + MAINTAINED), j = (uint64_t)get16(plan + RENOVATED);
+
+    count_motors(kind, sheet, (struct arc){RENOVATE, i, j});
+}
 
 /* A copy on the heap that ends where the bytes do. */
 static struct bytes copied(const uint8_t *bytes, size_t length)
@@ -46,6 +77,8 @@ static uint64_t compare_price(struct bytes sheet, const uint8_t *plan, size_t le
     struct call call = pricing_of(sheet, copy);
     uint64_t answer = compare(&call, NULL);
 
+    if (nimovalsa_number(answer) == 0)
+        count_motors_of_plan(PRICE, sheet, plan);
     dispose(copy);
     return answer;
 }
@@ -83,6 +116,7 @@ static size_t compare_plans(struct bytes sheet, uint8_t *plan)
     if (nimovalsa_number(answer) != 0)
         return 0;
 
+    count_motors_of_plan(PLAN, sheet, plan);
     length = NIMOVALSA_PLAN_BYTES(get16(plan + REPLACEMENTS));
     compare_word_counts(sheet, length);
     compare_word_counts(sheet, length - 1);
@@ -109,7 +143,8 @@ static void compare_sheet(struct random *random, uint8_t *bytes)
     for (size_t k = 0; k < ARCS; k++) {
         struct call cost = costing_of(sheet, draw_arc(random, bytes));
 
-        compare(&cost, NULL);
+        if (nimovalsa_number(compare(&cost, NULL)) == 0)
+            count_motors(COST, sheet, cost.arc);
     }
     dispose(sheet);
 }
@@ -158,6 +193,15 @@ static void expect_every_number(void)
                 stop("none answered number %u option %u", number, option);
 }
 
+/* Some figures of each kind of call would be others if renovating renewed the motors. */
+static void expect_old_motors(void)
+{
+    name_case("all calls");
+    for (enum kind kind = COST; kind <= PLAN; kind++)
+        if (with_old_motors[kind] == 0)
+            stop("no %s tells old motors from new ones", kinds[kind]);
+}
+
 void compare_answers(void)
 {
     struct random random = {20180301};
@@ -176,5 +220,8 @@ void compare_answers(void)
         compare_damaged(&random, sheet);
     }
     expect_every_number();
-    printf("bench: %lu answers of the library and two C planners compared\n", compared);
+    expect_old_motors();
+    printf("bench: %lu answers of the library and two C planners compared; "
+           "%lu costs, %lu prices and %lu plans would be others if renovating renewed the motors\n",
+           compared, with_old_motors[COST], with_old_motors[PRICE], with_old_motors[PLAN]);
 }

@@ -17,7 +17,7 @@ const struct planner planners[PLANNERS] = {
     [RECIPROCAL] = {"C, recip.", CALLS(reciprocal_)},
 };
 
-static const char *const kinds[] = {[CHECK] = "check", [COST] = "cost", [PRICE] = "price", [PLAN] = "plan"};
+const char *const kinds[PLAN + 1] = {[CHECK] = "check", [COST] = "cost", [PRICE] = "price", [PLAN] = "plan"};
 
 unsigned long compared, answered[15][4];
 

@@ -19,6 +19,9 @@ extern const struct planner planners[PLANNERS];
 
 enum kind { CHECK, COST, PRICE, PLAN };
 
+/* The name of each kind. */
+extern const char *const kinds[PLAN + 1];
+
 struct arc {
     uint64_t option, start, end;
 };

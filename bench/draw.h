@@ -19,6 +19,7 @@ int64_t near_an_end(struct random *random, int64_t low, int64_t high);
 struct shape {
     const char *name;
     int64_t most_years, most_life, most_amount, least_inflation, most_rate;
+    int ages_fast; /* every ageing is the largest that passes, or one less */
 };
 
 /* A sheet that passes the checks, its fields often at a limit. Some options are not offered. */

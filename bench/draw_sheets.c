@@ -73,9 +73,10 @@ static void draw_record(struct random *random, uint8_t *record, const struct sha
     for (size_t k = 0; k < COUNT(inflations); k++)
         put32(record + inflations[k], near_an_end(random, shape->least_inflation, rate));
     for (size_t k = 0; k < COUNT(flows); k++) {
-        int64_t inflation = (int32_t)get32(record + flows[k].inflation);
+        int64_t most = most_ageing(rate, (int32_t)get32(record + flows[k].inflation));
+        int64_t least = shape->ages_fast && most > 0 ? most - 1 : 0;
 
-        put32(record + flows[k].ageing, near_an_end(random, 0, most_ageing(rate, inflation)));
+        put32(record + flows[k].ageing, near_an_end(random, least, most));
     }
     draw_overhauls(random, record, shape);
 }

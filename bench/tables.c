@@ -85,6 +85,7 @@ static void print_cost_rows(void)
     print_row("cost on (a), maintain from 0 to 15", costing_of(paper, (struct arc){MAINTAIN, 0, 15}));
     print_row("cost on (a), replace from 0 to 60", costing_of(paper, (struct arc){REPLACE, 0, 60}));
     print_row("cost on (a), replace from 240 to 300", costing_of(paper, (struct arc){REPLACE, 240, 300}));
+    print_row("cost on (b), renovate from 180 to 300", costing_of(full, (struct arc){RENOVATE, 180, 300}));
     print_row("cost on (b), replace from 180 to 300", costing_of(full, (struct arc){REPLACE, 180, 300}));
     print_row("cost on (b), replace from 0 to 1", costing_of(full, (struct arc){REPLACE, 0, 1}));
 }

@@ -128,15 +128,22 @@ uint64_t nimovalsa_check(const uint8_t *sheet, size_t length);
  * of these payments is its amount moved forward from year 0 to its year, a
  * year at a time, by (10^6 + f) / (10^6 + r), rounded up to a whole unit; in
  * the years after start, maintenance and electricity first move by
- * (10^6 + g) / 10^6, rounded up likewise. So a cost is never below its exact
- * value, the same sum without rounding, and for an arc from year t to year u
- * at most (5u^2 + 3u - 5t^2 - 3t) / 2 units above it.
+ * (10^6 + g) / 10^6, rounded up likewise.
+ *
+ * The electricity of renovate (option 1) does so in every year, also in those
+ * up to start: renovating renews the building, while the motors go on ageing.
+ * Here the library follows the owner's request and not the 2018 paper, in which
+ * electricity ages from start.
+ *
+ * A cost is never below its exact value, the same sum without rounding, and for
+ * an arc from year t to year u at most (5u^2 + 3u - 5t^2 - 3t) / 2 units above
+ * it.
  *
  * Buffers: as with nimovalsa_check, the sheet is only read, nothing is
  * written, and nothing is kept between calls.
  *
  * Duties of the caller: those of nimovalsa_check, with NIMOVALSA_COST_STACK
- * bytes of stack. The call was measured to use 808; tests/c measures it again
+ * bytes of stack. The call was measured to use 824; tests/c measures it again
  * and fails above the figure here. It is not proved.
  */
 #define NIMOVALSA_COST_STACK 8192
@@ -261,8 +268,9 @@ uint64_t nimovalsa_plan(const uint8_t *sheet, size_t sheet_length,
  * In cents a payment starts at its amount * 100 and moves forward from year 0
  * to its year, a year at a time, by (10^6 + general) / 10^6 and then by
  * (10^6 + f) / 10^6; in the years after the start of the arc, maintenance and
- * electricity first move by (10^6 + g) / 10^6. After each of these the result
- * is rounded up to a whole cent. Nothing is discounted.
+ * electricity first move by (10^6 + g) / 10^6, and the electricity of renovate
+ * does so in every year. After each of these the result is rounded up to a
+ * whole cent. Nothing is discounted.
  *
  * Units are present values, and cents are money of their own year: a word of
  * one list is never to be added to a word of the other.

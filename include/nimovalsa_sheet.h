@@ -28,7 +28,9 @@ enum {
  * Ages and lives are in years, amounts in whole currency units at the price
  * level of year 0, inflations and ageings in millionths a year: 40,000 is 4 per
  * cent. Maintenance and electricity are amounts a year. An inflation is the
- * differential one, beyond general inflation.
+ * differential one, beyond general inflation. An ageing counts from the year in
+ * which the option starts, that of renovate's electricity from year 0, as
+ * renovating keeps the motors.
  */
 struct nimovalsa_overhaul {
     uint16_t age;

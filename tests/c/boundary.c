@@ -3,9 +3,8 @@
  * nimovalsa_budget from C on good, damaged, short and long sheets and plans, on
  * arcs with and without fault, and with buffers of many lengths. Compares each
  * answer with the refusal table, the costs and the totals of document 01, and
- * what is written with its chains and words, with recorded plans, and with the
- * budget of document 02. harness.c says how the memory around a call is
- * watched. The argument is the file of the recorded plans.
+ * what is written with its chains and words and with the budget of document 02.
+ * harness.c says how the memory around a call is watched.
  *
  * Status: 0 if all is as expected, 1 if not, 2 for wrong use.
  */
@@ -15,8 +14,8 @@
 
 int main(int argc, char **argv)
 {
-    if (argc != 2) {
-        fprintf(stderr, "c boundary: takes one argument, the recorded plans\n");
+    if (argc != 1) {
+        fprintf(stderr, "c boundary: takes no argument, got %s\n", argv[1]);
         return 2;
     }
     start_harness();
@@ -27,7 +26,6 @@ int main(int argc, char **argv)
     test_chains();
     test_pricing();
     test_planning();
-    test_recorded(argv[1]);
     test_budgets();
     test_budgeting();
     test_stack(&checking);

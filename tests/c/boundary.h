@@ -1,7 +1,8 @@
 /*
  * What the files of this folder share: calls of the library between
  * unreadable pages and on a measured stack (harness.c), sheets by field
- * (fields.c, sheets.c), and the tests of each call.
+ * (fields.c, sheets.c), payments by the rules (steps.c), and the tests of each
+ * call.
  */
 #ifndef BOUNDARY_H
 #define BOUNDARY_H
@@ -98,7 +99,31 @@ typedef void make_sheet(uint8_t *sheet);
 make_sheet make_middle_sheet, make_limit_sheet, make_empty_sheet,
     make_case_9_sheet, make_case_10_sheet, make_case_11_sheet,
     make_case_12_sheet, make_six_year_sheet, make_three_year_sheet,
-    make_dear_sheet;
+    make_dear_sheet, make_motors_sheet;
+
+/* ---- steps.c: payments by the rules ---- */
+
+/* Maintenance or electricity; the rates are in millionths a year. */
+struct yearly {
+    uint64_t amount;
+    int64_t inflation, ageing;
+};
+
+/* A quotient rounded up. */
+uint64_t up(uint64_t dividend, uint64_t divisor);
+
+/* What is paid in a year for what was new in year since: a step for each year,
+ * those after since in service. */
+uint64_t units_in(const struct yearly *of, unsigned year, unsigned since,
+                  uint64_t rate);
+uint64_t cents_in(const struct yearly *of, unsigned year, unsigned since,
+                  int64_t general);
+
+/* When what a payment is for was new: renovating keeps the motors of year 0. */
+unsigned new_in(unsigned option, size_t payment, unsigned start);
+
+/* The payment is the field of its amount, MAINTENANCE or ELECTRICITY. */
+void put_yearly(uint8_t *record, size_t payment, const struct yearly *of);
 
 /* ---- lending.c: planning in watched buffers ---- */
 
@@ -196,9 +221,6 @@ void test_pricing(void); /* pricing, by the plan's bytes */
 void test_planning(void);
 void test_budgets(void);   /* budgeting, by what the lists hold */
 void test_budgeting(void); /* budgeting, by its refusals and buffers */
-
-/* Planning, by the recorded plans of the file at this path. */
-void test_recorded(const char *path);
 
 /* On a sheet where checking answers this, the other calls answer the same if
  * it is a refusal, whatever the arc, plan or buffers. On an accepted sheet the

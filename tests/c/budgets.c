@@ -134,9 +134,9 @@ static void make_ageing_rest_sheet(uint8_t *at)
     make_rest_sheet(at, ELECTRICITY, ELECTRICITY_AGEING, 1);
 }
 
-/* In case 12 and in the six years nothing is rounded, and chains.c has what
- * their arcs cost. The other words follow from the rules. None was taken from
- * the library. */
+/* In case 12, in the six years and in the units of the first motors nothing is
+ * rounded, and chains.c has what their arcs cost. The other words follow from
+ * the rules. None was taken from the library. */
 const struct budget_case budget_cases[] = {
     {make_two_year_sheet,
      "two years",
@@ -187,6 +187,20 @@ const struct budget_case budget_cases[] = {
      {6,
       {10000, 1000000, 10000000, 7300000000, 100000000, 100000000, 100000000},
       {100, 10000, 100000, 73000000, 1000000, 1000000, 1000000}}},
+    {make_motors_sheet,
+     "motors, renovated for a year",
+     {1, 2, 1, {4}},
+     0,
+     {4,
+      {0, 10900000, 11890100, 8019000, 7938810},
+      {0, 109000, 118901, 80190, 79389}}},
+    {make_motors_sheet,
+     "motors, renovated to the end",
+     {1, 4, 0, {0}},
+     20000,
+     {4,
+      {0, 10900000, 9890100, 9791199, 9693288},
+      {0, 111180, 102898, 103908, 104928}}},
     {make_steep_sheet,
      "steep",
      {0, 0, 1, {15}},
@@ -210,38 +224,38 @@ const struct budget_case budget_cases[] = {
      {5, 9, 1, {14}},
      20000,
      {14,
-      {1500000, 833934, 1097986, 802825, 1170584, 9700571, 862949, 419772,
-       863208, 18822832, 168223, 163349, 591551, 154077, 149668},
-      {15000, 8850, 12364, 9593, 14840, 130325, 12314, 6363, 13874, 320210,
+      {1500000, 833934, 1097986, 802825, 1170584, 9700571, 876875, 433376,
+       876497, 18835814, 168223, 163349, 591551, 154077, 149668},
+      {15000, 8850, 12364, 9593, 14840, 130325, 12515, 6571, 14089, 320433,
        3055, 3151, 12051, 3350, 3455}}},
     {make_rated_sheet,
      "15 years",
      {5, 9, 1, {15}},
      20000,
      {15,
-      {1500000, 833934, 1097986, 802825, 1170584, 9700571, 862949, 419772,
-       863208, 18822832, 168223, 163349, 591551, 154077, 598749, 145403},
-      {15000, 8850, 12364, 9593, 14840, 130325, 12314, 6363, 13874, 320210,
+      {1500000, 833934, 1097986, 802825, 1170584, 9700571, 876875, 433376,
+       876497, 18835814, 168223, 163349, 591551, 154077, 598749, 145403},
+      {15000, 8850, 12364, 9593, 14840, 130325, 12515, 6571, 14089, 320433,
        3055, 3151, 12051, 3350, 13733, 3563}}},
     {make_rated_sheet,
      "16 years",
      {5, 9, 2, {15, 16}},
      20000,
      {16,
-      {1500000, 833934, 1097986, 802825, 1170584, 9700571, 862949, 419772,
-       863208, 18822832, 168223, 163349, 591551, 154077, 598749, 15172509,
+      {1500000, 833934, 1097986, 802825, 1170584, 9700571, 876875, 433376,
+       876497, 18835814, 168223, 163349, 591551, 154077, 598749, 15172509,
        136094},
-      {15000, 8850, 12364, 9593, 14840, 130325, 12314, 6363, 13874, 320210,
+      {15000, 8850, 12364, 9593, 14840, 130325, 12515, 6571, 14089, 320433,
        3055, 3151, 12051, 3350, 13733, 367814}}},
     {make_rated_sheet,
      "17 years",
      {5, 9, 2, {15, 17}},
      20000,
      {17,
-      {1500000, 833934, 1097986, 802825, 1170584, 9700571, 862949, 419772,
-       863208, 18822832, 168223, 163349, 591551, 154077, 598749, 15172509,
+      {1500000, 833934, 1097986, 802825, 1170584, 9700571, 876875, 433376,
+       876497, 18835814, 168223, 163349, 591551, 154077, 598749, 15172509,
        136094, 132239},
-      {15000, 8850, 12364, 9593, 14840, 130325, 12314, 6363, 13874, 320210,
+      {15000, 8850, 12364, 9593, 14840, 130325, 12515, 6571, 14089, 320433,
        3055, 3151, 12051, 3350, 13733, 367814}}},
     {make_sparse_sheet,
      "300 years",
@@ -362,20 +376,26 @@ static void make_paying_sheet(unsigned horizon, unsigned option, size_t payment)
         put_overhaul(record, n, ages[n], 1);
 }
 
-static void test_payment(struct span span, unsigned option, size_t payment)
+static struct bytes put_span(struct span span)
 {
-    const unsigned years[] = {0, span.i, span.j, span.horizon};
     struct chain chain = {(uint16_t)span.i,
                           (uint16_t)span.j,
                           span.j < span.horizon,
                           {(uint16_t)span.horizon}};
+
+    return put_plan(plan, &chain);
+}
+
+static void test_payment(struct span span, unsigned option, size_t payment)
+{
+    const unsigned years[] = {0, span.i, span.j, span.horizon};
     struct ledger ledger = {.horizon = span.horizon};
 
     name_case("payment %zu of option %u, i %u, j %u, T %u", payment, option,
               span.i, span.j, span.horizon);
     make_paying_sheet(span.horizon, option, payment);
     pay_all(&ledger, payment, years[option], years[option + 1]);
-    expect_ledger(put_plan(plan, &chain), 0, &ledger);
+    expect_ledger(put_span(span), 0, &ledger);
 }
 
 static void test_payments(void)
@@ -386,12 +406,65 @@ static void test_payments(void)
                 test_payment(spans[n], option, payments[k]);
 }
 
-/* ---- 300 replacements ---- */
+/* ---- each yearly payment by itself, with rates ---- */
 
-static uint64_t up(uint64_t dividend, uint64_t divisor)
+struct rated {
+    const char *name;
+    int64_t rate, general;
+    struct yearly payment;
+};
+
+/* What an activity pays, by steps.c. */
+static void pay_rated(struct ledger *ledger, const struct rated *of,
+                      unsigned since, unsigned start, unsigned end)
 {
-    return (dividend + divisor - 1) / divisor;
+    for (unsigned year = start + 1; year <= end; year++) {
+        ledger->units[year] =
+            units_in(&of->payment, year, since, (uint64_t)of->rate);
+        if (year <= LAST_OF_CENTS)
+            ledger->cents[year] =
+                cents_in(&of->payment, year, since, of->general);
+    }
 }
+
+static void test_rated_payment(const struct rated *of, struct span span,
+                               unsigned option, size_t payment)
+{
+    const unsigned years[] = {0, span.i, span.j, span.horizon};
+    unsigned start = years[option], end = years[option + 1];
+    struct ledger ledger = {.horizon = span.horizon};
+
+    name_case("%s payment %zu of option %u, i %u, j %u, T %u", of->name,
+              payment, option, span.i, span.j, span.horizon);
+    make_paying_sheet(span.horizon, option, payment);
+    put32(sheet + RATE, of->rate);
+    put_yearly(record_of(sheet, option), payment, &of->payment);
+    pay_rated(&ledger, of, new_in(option, payment, start), start, end);
+    expect_ledger(put_span(span), (uint64_t)of->general, &ledger);
+}
+
+static void test_rated_payments(const struct rated *of)
+{
+    for (size_t n = 0; n < COUNT(spans); n++)
+        for (unsigned option = 0; option < OPTIONS; option++) {
+            test_rated_payment(of, spans[n], option, MAINTENANCE);
+            test_rated_payment(of, spans[n], option, ELECTRICITY);
+        }
+}
+
+/* The second is that of the steep sheet. */
+static void test_rates(void)
+{
+    static const struct rated usual = {
+        "usual", 40000, 20000, {1700, -4000, 20000}};
+    static const struct rated steep = {
+        "steep", 200000, 50000, {1000000000, -40000, 250000}};
+
+    test_rated_payments(&usual);
+    test_rated_payments(&steep);
+}
+
+/* ---- 300 replacements ---- */
 
 /* An investment of 10^9 every year, which is a tenth less than that of the year
  * before; in cents general inflation adds a twentieth first. */
@@ -437,6 +510,7 @@ void test_budgets(void)
     test_cases();
     test_generals();
     test_payments();
+    test_rates();
     test_falling_investments();
     test_largest_words();
 }

@@ -1,7 +1,7 @@
 /*
  * nimovalsa_price by the plan's chain: feasible ones with the totals that
- * document 01's rules give them, steps rounded up as document 02 asks, and ones
- * that each break a single rule.
+ * document 01's rules give them, steps rounded up and motors kept by renovating
+ * as document 02 asks, and ones that each break a single rule.
  */
 #include "boundary.h"
 
@@ -172,6 +172,22 @@ static const struct chain_case six_year_chains[] = {
     {{0, 0, 3, {65533, 3, 6}}, REFUSED_PLAN},
 };
 
+/* Each year electricity, 1,000 in every option, keeps 0.9 of its value, and
+ * 0.99 in service; so does the maintenance of renovating, 10. A renovation
+ * costs 100 and keeps the motors of year 0; a replacement costs 200. */
+static const struct chain_case motors_chains[] = {
+    /* 990; 100 + 8.91 + 980.1; 200 + 801.9 + 793.881 */
+    {{1, 2, 1, {4}}, PRICED(38747910)},
+    /* 990; 100 + 8.91 + 8.8209 + 980.1 + 970.299; 200 + 721.71 */
+    {{1, 3, 1, {4}}, PRICED(39798399)},
+    /* 990; 2068.1299 as before and, rounded up, 8.732691 + 960.59601 */
+    {{1, 4, 0, {0}}, PRICED(40274587)},
+    /* 100 + 9.9 + 9.801 + 990 + 980.1; 200 + 801.9 + 793.881 */
+    {{0, 2, 1, {4}}, PRICED(38855820)},
+    /* 990; 200 + 891; 200 + 801.9 + 793.881 */
+    {{1, 1, 2, {2, 4}}, PRICED(38767810)},
+};
+
 /* Chains without replacements: j is T. */
 static const struct chain_case three_year_chains[] = {
     /* 31; 21 + 1,081; 11 + 2,090 */
@@ -217,8 +233,8 @@ static const struct chain_case empty_chains[] = {
 /* T 300. As on the middle sheet. */
 static const struct chain_case limit_chains[] = {
     {{0, 0, 3, {120, 240, 300}}, PRICED(932619209053398)},
-    {{120, 240, 1, {300}}, PRICED(932619209053398)},
-    {{1, 2, 3, {122, 242, 300}}, PRICED(661848305095406)},
+    {{120, 240, 1, {300}}, PRICED(950413884319224)},
+    {{1, 2, 3, {122, 242, 300}}, PRICED(664042055095406)},
     {{121, 240, 1, {300}}, REFUSED_PLAN},
     {{120, 241, 1, {300}}, REFUSED_PLAN},
     {{0, 0, 3, {120, 240, 301}}, REFUSED_PLAN},
@@ -285,6 +301,7 @@ void test_chains(void)
     TEST_CHAINS(case_12, case_12_chains);
     TEST_CHAINS(six_year, six_year_chains);
     TEST_CHAINS(three_year, three_year_chains);
+    TEST_CHAINS(motors, motors_chains);
     TEST_CHAINS(middle, middle_chains);
     TEST_CHAINS(empty, empty_chains);
     TEST_CHAINS(limit, limit_chains);

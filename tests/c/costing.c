@@ -1,7 +1,7 @@
 /*
  * nimovalsa_cost on arcs with and without fault. Each answer is compared with
- * the refusal table and the costs of document 01, steps rounded up as document
- * 02 asks.
+ * the refusal table and the costs of document 01, steps rounded up and motors
+ * kept by renovating as document 02 asks.
  */
 #include "boundary.h"
 
@@ -84,6 +84,28 @@ static void make_rests_sheet(uint8_t *sheet)
     put32(replace + MAINTENANCE, 1);
     put32(replace + MAINTENANCE_INFLATION, -100000);
     put32(replace + MAINTENANCE_AGEING, 20001);
+}
+
+/* Renovating and replacing have electricity of 1 that ages by 2 per cent;
+ * maintaining has none. */
+static void make_ageing_sheet(uint8_t *sheet)
+{
+    static const struct yearly electricity = {1, 0, 20000};
+
+    put_head(sheet, 3, 40000);
+    for (unsigned option = 1; option < OPTIONS; option++) {
+        put_lives(record_of(sheet, option), 1, 2);
+        put_yearly(record_of(sheet, option), ELECTRICITY, &electricity);
+    }
+}
+
+static void make_ageing_sheet_with_maintenance(uint8_t *sheet)
+{
+    static const struct yearly maintenance = {1, 0, 20000};
+
+    make_ageing_sheet(sheet);
+    for (unsigned option = 1; option < OPTIONS; option++)
+        put_yearly(record_of(sheet, option), MAINTENANCE, &maintenance);
 }
 
 /* What costing answers. The costs follow from the rules and were not taken
@@ -179,9 +201,12 @@ static const struct arc_case middle_arcs[] = {
 /* On the limit sheet: T 300, lives 1 to 120, overhauls at 112 to 119. */
 static const struct arc_case limit_arcs[] = {
     {{0, 0, 120}, 213150517517393411},  {{1, 0, 1}, 7552000000000003},
-    {{1, 100, 212}, 2560000000344067},  {{2, 100, 213}, 5120000000347139},
-    {{2, 180, 300}, 23040000000184323}, {{2, 299, 300}, 2560000000001539},
-    {{2, 181, 301}, REFUSED_ARC},       {{2, 179, 300}, REFUSED_ARC},
+    {{1, 100, 212}, 10033116529978627}, {{2, 100, 213}, 5120000000347139},
+    {{1, 180, 300}, 24037256727085315}, {{2, 180, 300}, 23040000000184323},
+    {{1, 299, 300}, 2561287136712451},  {{2, 299, 300}, 2560000000001539},
+    {{1, 300, 300}, ACCEPTED},          {{2, 300, 300}, REFUSED_ARC},
+    {{1, 181, 301}, REFUSED_ARC},       {{2, 181, 301}, REFUSED_ARC},
+    {{1, 179, 300}, REFUSED_ARC},       {{2, 179, 300}, REFUSED_ARC},
 };
 
 /* In service without ageing, and plain: 7,500.008 is 7,501. Aged, 10,200.01 is
@@ -192,6 +217,26 @@ static const struct arc_case rests_arcs[] = {
     {{2, 0, 1}, PRICED(7651)},
 };
 
+/* Renovated, the motors are those of year 0: from 1 to 2 electricity takes two
+ * steps in service. Replaced they are new: it takes a plain step, then one in
+ * service. */
+static const struct arc_case ageing_arcs[] = {
+    {{1, 0, 1}, PRICED(9808)}, {{1, 0, 2}, PRICED(19429)},
+    {{1, 1, 2}, PRICED(9621)}, {{1, 1, 3}, PRICED(19058)},
+    {{1, 2, 3}, PRICED(9437)}, {{1, 3, 3}, ACCEPTED},
+    {{2, 0, 1}, PRICED(9808)}, {{2, 0, 2}, PRICED(19429)},
+    {{2, 1, 2}, PRICED(9432)}, {{2, 1, 3}, PRICED(18683)},
+    {{2, 2, 3}, PRICED(9070)},
+};
+
+/* Maintenance ages from the start, also by renovating. */
+static const struct arc_case maintained_arcs[] = {
+    {{1, 0, 2}, PRICED(38858)}, {{1, 1, 2}, PRICED(19053)},
+    {{1, 1, 3}, PRICED(37741)}, {{1, 2, 3}, PRICED(18507)},
+    {{2, 1, 2}, PRICED(18864)}, {{2, 1, 3}, PRICED(37366)},
+    {{2, 2, 3}, PRICED(18140)},
+};
+
 /* On the empty sheet: T 1, no option is offered. */
 static const struct arc_case empty_arcs[] = {
     {{0, 0, 0}, ACCEPTED},    {{0, 0, 1}, REFUSED_ARC},
@@ -200,19 +245,23 @@ static const struct arc_case empty_arcs[] = {
     {{2, 0, 0}, REFUSED_ARC}, {{2, 0, 1}, REFUSED_ARC},
 };
 
+static void expect_named(const char *name, struct arc now, struct bytes sheet,
+                         uint64_t answer)
+{
+    name_case("%s, option %" PRIu64 " from %" PRIu64 " to %" PRIu64, name,
+              now.option, now.start, now.end);
+    expect(now, sheet, answer);
+}
+
 static void test_arcs(make_sheet *make, const char *name,
                       const struct arc_case *cases, size_t count)
 {
     uint8_t sheet[NIMOVALSA_SHEET_BYTES];
 
     make(sheet);
-    for (size_t i = 0; i < count; i++) {
-        struct arc now = cases[i].arc;
-
-        name_case("%s, option %" PRIu64 " from %" PRIu64 " to %" PRIu64, name,
-                  now.option, now.start, now.end);
-        expect(now, (struct bytes){sheet, sizeof sheet}, cases[i].answer);
-    }
+    for (size_t i = 0; i < count; i++)
+        expect_named(name, cases[i].arc, (struct bytes){sheet, sizeof sheet},
+                     cases[i].answer);
 }
 
 /* The paper's case study: what its five replacements cost in units, and in the
@@ -238,6 +287,132 @@ static void test_paper_arcs(void)
                     "comparison with Table 5");
     }
 }
+
+/* ---- every start ---- */
+
+/* T 300, lives 1 to 120; every option has the same two payments. */
+struct terms {
+    const char *name;
+    int64_t rate;
+    struct yearly maintenance, electricity;
+};
+
+static struct bytes put_terms(uint8_t *sheet, const struct terms *of)
+{
+    put_head(sheet, 300, of->rate);
+    for (unsigned option = 0; option < OPTIONS; option++) {
+        uint8_t *record = record_of(sheet, option);
+
+        put_lives(record, 1, 120);
+        put_yearly(record, MAINTENANCE, &of->maintenance);
+        put_yearly(record, ELECTRICITY, &of->electricity);
+    }
+    return (struct bytes){sheet, NIMOVALSA_SHEET_BYTES};
+}
+
+/* What an arc costs by steps.c. */
+static uint64_t stepped_cost(const struct terms *of, struct arc now)
+{
+    unsigned option = (unsigned)now.option, start = (unsigned)now.start;
+    uint64_t rate = (uint64_t)of->rate, cost = 0;
+
+    for (unsigned year = start + 1; year <= now.end; year++) {
+        cost += units_in(&of->maintenance, year,
+                         new_in(option, MAINTENANCE, start), rate);
+        cost += units_in(&of->electricity, year,
+                         new_in(option, ELECTRICITY, start), rate);
+    }
+    return cost;
+}
+
+static void test_starts_of(const struct terms *of, uint64_t length)
+{
+    uint8_t sheet[NIMOVALSA_SHEET_BYTES];
+    struct bytes whole = put_terms(sheet, of);
+
+    for (uint64_t start = 0; start + length <= 300; start++)
+        for (uint64_t option = start == 0 ? 0 : 1; option < OPTIONS; option++) {
+            struct arc now = {option, start, start + length};
+
+            expect_named(of->name, now, whole, PRICED(stepped_cost(of, now)));
+        }
+}
+
+/* The ageing sheet's rates; rates that all differ; ageings at their limits: 30
+ * per cent, and what the inflation leaves of the discount. */
+static void test_starts(void)
+{
+    static const struct terms terms[] = {
+        {"ageing", 40000, {1, 0, 20000}, {1, 0, 20000}},
+        {"usual", 40000, {35000, 8500, 10000}, {15000, 2000, 20000}},
+        {"steep",
+         200000,
+         {1000000000, -100000, 300000},
+         {1000000000, -100000, 300000}},
+        {"full", 30000, {999999999, 0, 30000}, {1000000000, -50000, 84210}},
+    };
+
+    for (size_t n = 0; n < COUNT(terms); n++) {
+        test_starts_of(&terms[n], 1);
+        test_starts_of(&terms[n], 17);
+    }
+}
+
+/* ---- steps in service, counted ---- */
+
+/* Electricity whose ageing makes good the inflation and the discount: a step in
+ * service adds its rounding alone, and a plain one takes from it. Renovated
+ * from any year, in year y it has taken y steps in service. */
+struct level {
+    struct terms terms;
+    uint64_t rounding;
+};
+
+static uint64_t level_cost(const struct level *of, struct arc now)
+{
+    uint64_t units = of->terms.electricity.amount * 10000, cost = 0;
+
+    for (uint64_t year = now.start + 1; year <= now.end; year++)
+        cost += units + of->rounding * year;
+    return cost;
+}
+
+static void test_level(const struct level *of)
+{
+    static const uint64_t lengths[] = {0, 1, 2, 119, 120};
+    uint8_t sheet[NIMOVALSA_SHEET_BYTES];
+    struct bytes whole = put_terms(sheet, &of->terms);
+
+    for (size_t n = 0; n < COUNT(lengths); n++)
+        for (uint64_t start = 0; start + lengths[n] <= 300; start++) {
+            struct arc now = {1, start, start + lengths[n]};
+
+            expect_named(of->terms.name, now, whole,
+                         PRICED(level_cost(of, now)));
+        }
+}
+
+/* At 4.0001 per cent only a multiple of 10^6 units ages to a whole number, and
+ * the discount takes back less than the rounding. 0.9 * 1.3 is 1.17, which
+ * leaves no rest. */
+static void test_levels(void)
+{
+    static const struct level levels[] = {
+        {{"1 kept level", 40001, {0, 0, 0}, {1, 0, 40001}}, 1},
+        {{"10^9 - 1 kept level", 40001, {0, 0, 0}, {999999999, 0, 40001}}, 1},
+        {{"10^9 kept level", 40001, {0, 0, 0}, {1000000000, 0, 40001}}, 0},
+        {{"10^9 kept level by ageing at its limit",
+          170000,
+          {0, 0, 0},
+          {1000000000, -100000, 300000}},
+         0},
+    };
+
+    for (size_t n = 0; n < COUNT(levels); n++)
+        test_level(&levels[n]);
+}
+
+/* ---- the memory ---- */
 
 static void test_null(void)
 {
@@ -271,8 +446,15 @@ void test_costing(void)
               COUNT(middle_arcs));
     test_arcs(make_limit_sheet, "limit sheet", limit_arcs, COUNT(limit_arcs));
     test_arcs(make_rests_sheet, "rests sheet", rests_arcs, COUNT(rests_arcs));
+    test_arcs(make_ageing_sheet, "ageing sheet", ageing_arcs,
+              COUNT(ageing_arcs));
+    test_arcs(make_ageing_sheet_with_maintenance,
+              "ageing sheet with maintenance", maintained_arcs,
+              COUNT(maintained_arcs));
     test_arcs(make_empty_sheet, "empty sheet", empty_arcs, COUNT(empty_arcs));
     test_paper_arcs();
+    test_starts();
+    test_levels();
     test_null();
     test_sheet_unchanged();
 }

@@ -197,6 +197,38 @@ static void make_unequal_lives_sheet(uint8_t *at)
     put_overhaul(record, 0, 2, 500);
 }
 
+/* Three years are renovated, at 5, or the first of them is maintained, at 100.
+ * Electricity keeps 0.9 of its 100 each year, and 0.99 in service. Maintaining
+ * saves the 99 of year 1, and no more, as the motors are kept; if renovating
+ * brought new ones it would also save 17.7309, and be taken. */
+static void make_at_once_sheet(uint8_t *at)
+{
+    static const struct yearly electricity = {100, -100000, 100000};
+
+    put_head(at, 3, 0);
+    put_lives(record_of(at, 0), 1, 1);
+    put32(record_of(at, 0) + MAINTENANCE, 100);
+    put_lives(record_of(at, 1), 1, 3);
+    put32(record_of(at, 1) + INVESTMENT, 5);
+    put_yearly(record_of(at, 1), ELECTRICITY, &electricity);
+}
+
+/* A replacement costs 1,000 in every year, so 120 years are maintained and 120
+ * renovated. Electricity is that of renovating alone, kept level as in
+ * costing.c: in year y it is y units above 10,000. */
+static void make_late_motors_sheet(uint8_t *at)
+{
+    static const struct yearly electricity = {1, 0, 40001};
+
+    put_head(at, 300, 40001);
+    put_lives(record_of(at, 0), 120, 120);
+    put_lives(record_of(at, 1), 120, 120);
+    put_yearly(record_of(at, 1), ELECTRICITY, &electricity);
+    put_lives(record_of(at, 2), 60, 60);
+    put32(record_of(at, 2) + INVESTMENT, 1000);
+    put32(record_of(at, 2) + INVESTMENT_INFLATION, 40001);
+}
+
 /* Replace for 1 to 100 years, at 7 and 1 for each year. */
 static void put_hundred_year_sheet(uint8_t *at, unsigned horizon)
 {
@@ -228,7 +260,10 @@ struct plan_case {
 /* Where totals tie, the chain is the one that document 01 takes. The totals of
  * cases 10 to 12 are document 01's, and the paper's case study has the chain of
  * its Tables 5 and 6. chains.c derives some of the others and the rest follow
- * from the rules; none was taken from the library. */
+ * from the rules; none was taken from the library. If renovating brought new
+ * motors, three chains would be others: renovated from 1 to 4, at 37628227, in
+ * "motors"; from 1 to 3, at 2823090, in "at once"; and in "limit" from 2 to 5,
+ * where now the first replacement is, at the same total. */
 static const struct plan_case plan_cases[] = {
     {make_case_10_sheet, "case 10", {0, 0, 2, {4, 7}}, 0},
     {make_case_11_sheet, "case 11", {0, 0, 2, {2, 3}}, 30000},
@@ -243,8 +278,11 @@ static const struct plan_case plan_cases[] = {
     {make_middle_sheet, "middle", {20, 30, 0, {0}}, 198077882},
     {make_limit_sheet,
      "limit",
-     {2, 5, 5, {9, 17, 76, 188, 300}},
+     {2, 2, 6, {5, 9, 17, 76, 188, 300}},
      173714832058362},
+    {make_motors_sheet, "motors", {1, 2, 1, {4}}, 38747910},
+    {make_at_once_sheet, "at once", {0, 3, 0, {0}}, 2990399},
+    {make_late_motors_sheet, "late motors", {120, 240, 1, {300}}, 11221660},
 
     {make_free_sheet, "free", {3, 5, 1, {7}}, 0},
     {make_short_maintain_sheet, "short maintain", {1, 3, 2, {5, 7}}, 0},

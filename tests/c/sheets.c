@@ -138,3 +138,25 @@ void make_dear_sheet(uint8_t *sheet)
             put_overhaul(record, entry, 1 + entry, 1000000000);
     }
 }
+
+/* T 4, every option offered. Each year electricity keeps 0.9 of its value, and
+ * 0.99 in service; so does the maintenance of renovating. */
+void make_motors_sheet(uint8_t *sheet)
+{
+    static const struct yearly electricity = {1000, -100000, 100000};
+    static const struct yearly maintenance = {10, -100000, 100000};
+    uint8_t *maintain = record_of(sheet, 0);
+    uint8_t *renovate = record_of(sheet, 1);
+    uint8_t *replace = record_of(sheet, 2);
+
+    put_head(sheet, 4, 0);
+    put_lives(maintain, 1, 1);
+    put_yearly(maintain, ELECTRICITY, &electricity);
+    put_lives(renovate, 1, 3);
+    put32(renovate + INVESTMENT, 100);
+    put_yearly(renovate, MAINTENANCE, &maintenance);
+    put_yearly(renovate, ELECTRICITY, &electricity);
+    put_lives(replace, 1, 2);
+    put32(replace + INVESTMENT, 200);
+    put_yearly(replace, ELECTRICITY, &electricity);
+}

@@ -33,6 +33,21 @@ BY_HAND_EUROS = [100, 7 + 10, 10 + 200, 20 + 300, 5 + 30, 30]
 # The same at 5 % of general inflation, each payment rounded up to a cent each year.
 BY_HAND_CENTS = [10_000, 735 + 1_050, 1_103 + 22_050, 2_316 + 34_729, 609 + 3_648, 3_831]
 
+
+def four_years():
+    """Electricity, 1,000 euros, keeps 0.9 of its value a year, 0.99 in service; so does the renovation's maintenance."""
+    sheet = sheets.head(4, 0) + sheets.record(1, 1) + sheets.record(1, 3, 100) + sheets.record(1, 2, 200)
+    for option in range(3):
+        sheet = sheets.put_yearly(sheet, option, sheets.ELECTRICITY, 1_000, -100_000, 100_000)
+    return sheets.put_yearly(sheet, 1, sheets.MAINTENANCE, 10, -100_000, 100_000)
+
+
+# Maintain 0 to 1, renovate 1 to 2, replace 2 to 4: the motors are those of year 0 to year 2.
+OLD_MOTORS = four_years()
+OLD_MOTORS_ENDS = [1, 2, 4]
+OLD_MOTORS_UNITS = [0, 9_900_000 + 1_000_000, 89_100 + 9_801_000 + 2_000_000, 8_019_000, 7_938_810]
+OLD_MOTORS_CENTS = [0, 99_000 + 10_000, 891 + 98_010 + 20_000, 80_190, 79_389]
+
 HORIZONS = (1, 2, 14, 15, 16, 17, 40, 300)  # of chains from any hand
 LONGEST = 60  # of their activities, in years
 
@@ -40,6 +55,7 @@ LONGEST = 60  # of their activities, in years
 def run(bench):
     checked_figures(bench)
     by_hand(bench)
+    old_motors(bench)
     year_15(bench)
     against_a_listing(bench)
     the_paper_by_year(bench)
@@ -74,6 +90,14 @@ def by_hand(bench):
         bench.equal(budget(BY_HAND, BY_HAND_ENDS, general), (units, general, cents), f'five years at {text}')
         picture = drawn(bench, 'five', sum(units), BY_HAND_ENDS, text)
         charts_tell(bench, picture, units, cents, f'five years at {text}')
+
+
+def old_motors(bench):
+    """Renovated, the motors of year 0 go on ageing, in either kind of money; maintenance starts anew."""
+    bench.equal(budget(OLD_MOTORS, OLD_MOTORS_ENDS, 0), (OLD_MOTORS_UNITS, 0, OLD_MOTORS_CENTS), 'old motors')
+    bench.put('motors', OLD_MOTORS)
+    picture = drawn(bench, 'motors', sum(OLD_MOTORS_UNITS), OLD_MOTORS_ENDS, '0%')
+    charts_tell(bench, picture, OLD_MOTORS_UNITS, OLD_MOTORS_CENTS, 'old motors')
 
 
 def year_15(bench):
@@ -132,9 +156,10 @@ def listed(sheet, ends):
             age, amount = struct.unpack_from('<HI', sheet, record + sheets.OVERHAULS + 6 * entry)
             if age < end - start:
                 yield amount, MILLION + f3, MILLION, start + age, 0
-        for year in range(1, end - start + 1):
-            yield maintained, MILLION + f1, MILLION + g1, start, year
-            yield powered, MILLION + f2, MILLION + g2, start, year
+        motors = 0 if place == 1 else start  # renovating keeps them
+        for year in range(start + 1, end + 1):
+            yield maintained, MILLION + f1, MILLION + g1, start, year - start
+            yield powered, MILLION + f2, MILLION + g2, motors, year - motors
 
 
 def summed(paid, last, worth, factor):

@@ -25,6 +25,7 @@ ALL_OFFERED = sheets.head(300, 0) + 3 * sheets.record(1, 120, 10, 1)
 
 def run(bench):
     steps_and_arcs(bench)
+    old_motors(bench)
     bench.put('paper', sheets.PAPER)
     bench.put('case12', CASE_12)
     bench.put('all', ALL_OFFERED)
@@ -42,8 +43,6 @@ def run(bench):
 def steps_and_arcs(bench):
     """Document 01's cases 1 to 8, rounded up as document 02 asks, and steps with small rests."""
     from nimovalsa.money import PresentValue
-    from nimovalsa.payments import arc_cost
-    from nimovalsa.sheet import decode
     at_4 = PresentValue(40_000)
     bench.equal(at_4.plain(10_000, 0), 9_616, 'case 1')
     bench.equal(at_4.plain(9_616, 0), 9_247, 'case 2')
@@ -53,11 +52,30 @@ def steps_and_arcs(bench):
     bench.equal(at_4.in_service(10_001, 0, 20_000), 9_810, 'an ageing to 10,201.02')
     bench.equal(PresentValue(200_000).plain(3, -100_000), 3, 'a plain step to 2.25')
     bench.equal(PresentValue(200_000).plain(4, -100_000), 3, 'a plain step without a rest')
-    plain = decode(sheets.only_replace(3, 40_000, 1, 2, 1, 1)).records[2]
-    overhauled = decode(sheets.only_replace(3, 40_000, 1, 2, 1, 1, overhauls=[(1, 1)])).records[2]
-    bench.equal(arc_cost(plain, 40_000, 1, 3), 27_755, 'case 6')
-    bench.equal(arc_cost(overhauled, 40_000, 1, 3), 37_002, 'case 7')
-    bench.equal(arc_cost(overhauled, 40_000, 1, 2), 18_863, 'case 8')
+    overhauled = sheets.only_replace(3, 40_000, 1, 2, 1, 1, overhauls=[(1, 1)])
+    bench.equal(cost(sheets.only_replace(3, 40_000, 1, 2, 1, 1), 2, 1, 3), 27_755, 'case 6')
+    bench.equal(cost(overhauled, 2, 1, 3), 37_002, 'case 7')
+    bench.equal(cost(overhauled, 2, 1, 2), 18_863, 'case 8')
+
+
+def cost(sheet, *activity):
+    from nimovalsa.payments import arc_cost
+    from nimovalsa.plan import Activity
+    from nimovalsa.sheet import decode
+    return arc_cost(decode(sheet), Activity(*activity))
+
+
+def old_motors(bench):
+    """Electricity of 1 euro that ages by 2 per cent a year: renovating keeps the motors of year 0."""
+    sheet = sheets.head(3, 40_000) + 3 * sheets.record(1, 2)
+    for option in range(3):
+        sheet = sheets.put_yearly(sheet, option, sheets.ELECTRICITY, 1, 0, 20_000)
+    for activity, units in (((0, 0, 2), 19_429), ((1, 0, 2), 19_429), ((1, 1, 2), 9_621), ((1, 1, 3), 19_058),
+                            ((1, 2, 3), 9_437), ((1, 3, 3), 0), ((2, 0, 2), 19_429), ((2, 1, 2), 9_432),
+                            ((2, 1, 3), 18_683), ((2, 2, 3), 9_070)):
+        bench.equal(cost(sheet, *activity), units, f'old motors, activity {activity}')
+    sheet = sheets.put_yearly(sheet, 1, sheets.MAINTENANCE, 1, 0, 20_000)
+    bench.equal(cost(sheet, 1, 1, 2), 19_053, 'maintenance ages from the start of a renovation')
 
 
 def the_paper(bench):
@@ -83,13 +101,9 @@ def the_paper(bench):
 
 def table_5(bench):
     """Each replacement of the paper's case study costs less than a euro more or less than in the paper."""
-    from nimovalsa.payments import arc_cost
-    from nimovalsa.sheet import decode
-    sheet = decode(sheets.PAPER)
     for start, (units, euros) in zip(range(0, 300, 60), PAPER_ARCS):
-        cost = arc_cost(sheet.records[2], sheet.discount_rate, start, start + 60)
-        bench.equal(cost, units, f'the replacement from {start}')
-        bench.holds(abs(cost - 10_000 * euros) < 10_000, f'the replacement from {start} is a euro or more off the paper')
+        bench.equal(cost(sheets.PAPER, 2, start, start + 60), units, f'the replacement from {start}')
+        bench.holds(abs(units - 10_000 * euros) < 10_000, f'the replacement from {start} is a euro or more off the paper')
     bench.equal(sum(units for units, _ in PAPER_ARCS), PAPER_TOTAL, 'the sum of the replacements')
 
 

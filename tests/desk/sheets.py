@@ -31,6 +31,13 @@ def put_option(sheet, option, at, form, value):
     return put(sheet, RECORDS + RECORD_BYTES * option + at, form, value)
 
 
+def put_yearly(sheet, option, payment, amount, inflation, ageing):
+    """The sheet with another payment of each year, MAINTENANCE or ELECTRICITY."""
+    for at, form, value in ((payment, 'I', amount), (payment + 4, 'i', inflation), (payment + 8, 'I', ageing)):
+        sheet = put_option(sheet, option, at, form, value)
+    return sheet
+
+
 def head(horizon, rate):
     return b'RCS' + struct.pack('<HHI', 1, horizon, rate)
 

@@ -29,10 +29,10 @@ def budget_of(sheet, chain, general=None):
 def by_year(money, sheet, chain, last):
     """What is paid in each of the years 0 to last."""
     sums = [0] * (last + 1)
-    for option, start, end in chain:
-        if start > last:  # and so do all arcs behind it
+    for activity in chain:
+        if activity.start > last:  # and so do all behind it
             break
-        for year, amount in payments(money, sheet.records[option], start, end):
+        for year, amount in payments(money, sheet, activity):
             if year <= last:
                 sums[year] += amount
     return sums

@@ -1,8 +1,12 @@
-"""What an arc pays and in which year, by document 01's rules, in either kind of money; its cost is their sum."""
+"""What an activity pays and in which year, by documents 01 and 02, in either kind of money; its cost is their sum.
+
+For electricity after a renovation document 02 is followed and not the paper: the motors go on ageing.
+"""
 
 from typing import NamedTuple
 
 from .money import PresentValue
+from .plan import RENOVATE
 
 
 class Payment(NamedTuple):
@@ -18,26 +22,30 @@ def once(money, euros, inflation, year):
     return Payment(year, amount)
 
 
-def yearly(money, euros, inflation, ageing, start, end):
-    """An amount that is paid in each year from start + 1 to end: plain steps up to start, then steps in service."""
-    amount = once(money, euros, inflation, start).amount
-    for year in range(start + 1, end + 1):
+def yearly(money, euros, inflation, ageing, new, years):
+    """An amount that is paid in each of these years: plain steps until what it is paid for is new, then in service."""
+    amount = once(money, euros, inflation, new).amount
+    for year in range(new + 1, years.stop):
         amount = money.in_service(amount, inflation, ageing)
-        yield Payment(year, amount)
+        if year in years:
+            yield Payment(year, amount)
 
 
-def payments(money, record, start, end):
-    """What is paid for an option that is kept from year start to year end."""
+def payments(money, sheet, activity):
+    """What is paid for an activity of a sheet."""
+    option, start, end = activity
     if start == end:
         return
+    record, years = sheet.records[option], range(start + 1, end + 1)
     yield once(money, record.investment, record.investment_inflation, start)
     for overhaul in record.overhauls():
         if overhaul.age < end - start:
             yield once(money, overhaul.amount, record.overhaul_inflation, start + overhaul.age)
-    yield from yearly(money, record.maintenance, record.maintenance_inflation, record.maintenance_ageing, start, end)
-    yield from yearly(money, record.electricity, record.electricity_inflation, record.electricity_ageing, start, end)
+    yield from yearly(money, record.maintenance, record.maintenance_inflation, record.maintenance_ageing, start, years)
+    motors = 0 if option == RENOVATE else start
+    yield from yearly(money, record.electricity, record.electricity_inflation, record.electricity_ageing, motors, years)
 
 
-def arc_cost(record, rate, start, end):
-    """The cost of that option in units: the sum of its payments as present values."""
-    return sum(payment.amount for payment in payments(PresentValue(rate), record, start, end))
+def arc_cost(sheet, activity):
+    """The cost of an activity in units: the sum of its payments as present values."""
+    return sum(payment.amount for payment in payments(PresentValue(sheet.discount_rate), sheet, activity))

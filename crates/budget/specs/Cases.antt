@@ -56,11 +56,12 @@ casesOfWords =
     -- an overhaul is paid in the year of its age; the next investment in the year in which the arc before it ends, with that arc's last flows
     ∷ unitsCase sheet12 (replacing 0 (3 ∷ 4 ∷ [])) 0 5 5 (100_000 ∷ 10_000 ∷ 160_000 ∷ 110_000 ∷ 10_000 ∷ [])
     ∷ centsCase sheet12 (replacing 0 (2 ∷ 4 ∷ [])) 50_000 5 5 (1_000 ∷ 105 ∷ 1_214 ∷ 117 ∷ 123 ∷ [])
-    -- every field of a record goes into the words of its option
+    -- every field of a record goes into the words of its option; from year 5 on the electricity of the renovation has as many years in service as it is
+    -- after year 0: with new motors word 5 would be 32,208,004 and 453,857
     ∷ unitsCase distinctSheet renovatedPlan 20_000 10 10
-    (11_010_000 ∷ 38_190_326 ∷ 24_025_006 ∷ 37_194_228 ∷ 38_874_553 ∷ 32_208_004 ∷ 30_687_976 ∷ 43_476_880 ∷ 41_625_626 ∷ 26_544_928 ∷ [])
+    (11_010_000 ∷ 38_190_326 ∷ 24_025_006 ∷ 37_194_228 ∷ 38_874_553 ∷ 33_911_438 ∷ 32_310_943 ∷ 45_023_181 ∷ 43_098_882 ∷ 27_948_590 ∷ [])
     ∷ centsCase distinctSheet renovatedPlan 20_000 10 10
-    (110_100 ∷ 409_022 ∷ 275_583 ∷ 456_935 ∷ 511_491 ∷ 453_857 ∷ 463_145 ∷ 702_746 ∷ 720_594 ∷ 492_159 ∷ [])
+    (110_100 ∷ 409_022 ∷ 275_583 ∷ 456_935 ∷ 511_491 ∷ 477_864 ∷ 487_641 ∷ 727_742 ∷ 746_100 ∷ 518_186 ∷ [])
     ∷ unitsCase distinctSheet replacedPlan 50_000 10 10
     (21_010_000 ∷ 42_971_535 ∷ 40_943_523 ∷ 58_239_737 ∷ 55_762_081 ∷ 63_719_948 ∷ 77_925_293 ∷ 45_234_247 ∷ 44_044_273 ∷ 42_901_032 ∷ [])
     ∷ centsCase distinctSheet replacedPlan 50_000 10 10

@@ -2,13 +2,14 @@
 -- payment of an arc passes the checks and falls by the horizon, so its exact value is whole (`payments-whole`) and its rounded one near
 -- (`payments-error`); how often the payments of each year are rounded; the two together. Assumes nothing.
 use Prim.Native.Nat.{ℕ, zero, suc, _+_, _*_, _≤_, _<_}
-use mathlib.Core.Path.{_≡_, refl}
+use mathlib.Core.Path.{_≡_, refl, ap, sym, _∙_}
 use mathlib.Core.List.{List, [], _∷_, _++_}
 use mathlib.Core.Bool.{Bool, true, false}
-use native.Mathlib.Nat.{mul-le-mul-left, add-zero, add-suc}
+use mathlib.Core.Logic.{⊎-elim}
+use native.Mathlib.Nat.{mul-le-mul-left, add-zero, add-suc, eq-or-lt-of-le, not-suc-le-zero}
 use native.Mathlib.Omega.{arith}
 use lib.Dec.{ltb, eqb}
-use borrow.Author.Tests.{ltb-true, eqb-true, ne-eqb}
+use borrow.Author.Tests.{ltb-true, eqb-true, eq-eqb, ne-eqb}
 use Rattle.base.specs.Lists.{Every, sumOf}
 use Rattle.base.proofs.TestLaws.{by-test}
 use Rattle.base.proofs.ListsLaws.{every-map, every-append}
@@ -43,15 +44,15 @@ module _ (horizon discount : ℕ) (positive : 0 < discount) where
   unfolding once year
   once-sound amount grow y grown h = omega arith
 
-  inYear-sound : (w : Flow) → FlowFits discount w → (t k : ℕ) → t + k ≤ horizon → Sound horizon discount (inYear w t k)
+  inYear-sound : (w : Flow) → FlowFits discount w → (s t k : ℕ) → s ≤ t → t + k ≤ horizon → Sound horizon discount (inYear w s t k)
   unfolding inYear year
-  inYear-sound w fits t k h = omega arith
+  inYear-sound w fits s t k old h = omega arith
 
   -- the first n years of a flow
   flow-sound :
-      (w : Flow) → FlowFits discount w → (t n : ℕ) → t + n ≤ horizon
-      → Every (Sound horizon discount) (forEach n (λ k. inYear w t (suc k) ∷ []))
-  flow-sound w fits t n h = every-forEach _ n _ (λ k l. (inYear-sound w fits t (suc k) (omega arith), tt))
+      (w : Flow) → FlowFits discount w → (s t n : ℕ) → s ≤ t → t + n ≤ horizon
+      → Every (Sound horizon discount) (forEach n (λ k. inYear w s t (suc k) ∷ []))
+  flow-sound w fits s t n old h = every-forEach _ n _ (λ k l. (inYear-sound w fits s t (suc k) old (omega arith), tt))
 
 module _ (horizon : ℕ) (k : Kept) (ok : KeptFits k) where
   discount-positive : 0 < k .discount
@@ -73,8 +74,8 @@ module _ (horizon : ℕ) (k : Kept) (ok : KeptFits k) where
         once-sound horizon (k .discount) discount-positive _ _ (k .from) (ok .terms .investment .grow .high) (omega arith),
         every-append _ (overhaulsBelow k (suc n) ++ forEach (suc n) (λ j. maintenance k (suc j) ∷ [])) _
             (every-append _ (overhaulsBelow k (suc n)) _ (overhauls-sound (suc n) h)
-            (flow (k .terms .maintenance) (ok .terms .maintenance) (k .from) (suc n) h))
-            (flow (k .terms .electricity) (ok .terms .electricity) (k .from) (suc n) h),
+            (flow (k .terms .maintenance) (ok .terms .maintenance) (k .from) (k .from) (suc n) (omega arith) h))
+            (flow (k .terms .electricity) (ok .terms .electricity) (k .since) (k .from) (suc n) (ok .since) h),
       )
 
 module _ (a : Arc) (ok : ArcFits a) where
@@ -126,10 +127,27 @@ module _ (k : Kept) (ok : KeptFits k) where
   unfolding overhaulsAt
   overhaulsAt-roundings n = atAge-roundings n (k .terms .overhauls .count) (omega arith)
 
-  -- What year n adds: one overhaul at most, and two flows. From a start t these give 3t + 5n + 4; the allowance has room for 4t.
+  -- What year n adds: one overhaul at most, and two flows. From a start t these give at most 4t + 5n + 4.
   added-roundings : (n : ℕ) → sumOf roundings (added k n) ≤ 4 * k .from + 5 * n + 4
   unfolding maintenance electricity inYear roundings
-  added-roundings n = rw (added-total roundings) (omega (arith, overhaulsAt-roundings n))
+  added-roundings n = rw (added-total roundings) (omega (arith, overhaulsAt-roundings n, ok .since))
+
+  -- and that much in a year with an overhaul, if the motors are in service since year 0
+  atAge-least : (n i j : ℕ) → i < j → ageOf k i ≡ n → k .from + n ≤ sumOf roundings (forEach j (atAge k n))
+  atAge-least n i zero l e = absurd (not-suc-le-zero l)
+  atAge-least n i (suc j) l e =
+      rw (forEach-suc roundings)
+      (⊎-elim
+      (λ (q : i ≡ j).
+      let here : ageOf k j ≡ n = ap (ageOf k) (sym q) ∙ e in
+      rw (eq-eqb (ageOf k j) n here, paidIf-true roundings, overhaul-roundings j) (omega arith))
+      (λ (m : i < j). omega (arith, atAge-least n i j m e))
+      (eq-or-lt-of-le (omega arith)))
+
+  pub added-full : (n i : ℕ) → i < k .terms .overhauls .count → ageOf k i ≡ n → k .since ≡ 0 → sumOf roundings (added k n) ≡ 4 * k .from + 5 * n + 4
+  unfolding maintenance electricity inYear roundings overhaulsAt
+  added-full n i l e old =
+      rw (added-total roundings) (omega (arith, overhaulsAt-roundings n, atAge-least n i (k .terms .overhauls .count) l e))
 
   -- by induction over the years
   walked-roundings : (n : ℕ) → 2 * sumOf roundings (walked k (suc n)) + allowance (k .from) ≤ allowance (k .from + suc n)

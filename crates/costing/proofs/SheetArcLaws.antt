@@ -1,19 +1,41 @@
--- An arc of a sheet: what the code holds of it (`kept-made`, `kept-read`, `cost-paid`), and what a sheet that passes the checks gives of it:
--- room for its steps (`keptOf-fits`, `kept-fits`), what the laws of the error ask (`arc-fits`), and how large its cost can be
--- (`keptOf-room`, `cost-le`). Assumes nothing.
+-- An arc of a sheet: since when its motors are in service (`since-kept`, `since-new`, `since-le`), what the code holds of it (`replace-from`,
+-- `kept-made`, `kept-read`, `cost-paid`), which steps its flows take (`electricity-kept`, `electricity-new`, `maintenance-new`), and what a
+-- sheet that passes the checks gives of it: room for its steps (`keptOf-fits`, `kept-fits`), what the laws of the error ask (`arc-fits`), and how
+-- large its cost can be (`keptOf-room`, `cost-le`). Assumes nothing.
 use Prim.Native.Nat.{ℕ, _+_, _-_, _*_, _≤_}
 use mathlib.Core.Path.{_≡_, refl, ap, sym, subst}
+use mathlib.Core.Bool.{true, false}
 use native.Mathlib.Omega.{arith}
-use Rattle.sheet.specs.Sheet.{PlanningSheet}
+use Rattle.base.proofs.TestLaws.{by-test}
+use Rattle.sheet.specs.Sheet.{PlanningSheet, replace}
 use Rattle.sheet.specs.Parsed.{termsOf, parsed, noTerms}
 use Rattle.sheet.specs.declared.Sheet.{Sheet}
 use Rattle.sheet.specs.declared.Terms.{Terms}
 use Rattle.sheet.proofs.ParsedLaws.{horizon-read, discount-read, terms-read}
 use Rattle.checking.specs.Fit.{Fit}
-use Rattle.costing.specs.Arc.{keptOn, keptOf, arcOf, paid, payments, worth, cost}
+use Rattle.steps.specs.Payment.{Payment}
+use Rattle.costing.specs.Arc.{keepsMotors, sinceOf, keptOn, keptOf, keptFrom, arcOf, inYear, maintenance, electricity, paid, payments, worth, cost}
 use Rattle.costing.specs.Fit.{yearly, KeptFits, ArcFits}
 use Rattle.costing.specs.declared.Kept.{Kept}
 use Rattle.costing.proofs.SizeLaws.{paid-le}
+
+-- the year since which motors are in service, by whether they are kept; it is not after the start
+pub since-kept : (option start : ℕ) → keepsMotors option ≡ true → sinceOf option start ≡ 0
+unfolding sinceOf
+since-kept option start e = rw e refl
+
+pub since-new : (option start : ℕ) → keepsMotors option ≡ false → sinceOf option start ≡ start
+unfolding sinceOf
+since-new option start e = rw e refl
+
+since-le : (option start : ℕ) → sinceOf option start ≤ start
+since-le option start =
+    by-test (keepsMotors option) (λ t. rw (since-kept option start t) (omega arith)) (λ t. rw (since-new option start t) (omega arith))
+
+-- a replacement kept from another year is the replacement from there
+pub replace-from : (s : Sheet) (y z : ℕ) → keptFrom (keptOf s replace y) z ≡ keptOf s replace z
+unfolding sinceOf
+replace-from s y z = refl
 
 pub keptOf-fits :
     (s : Sheet) → Fit s → (option start : ℕ) → option ≤ 2 → start ≤ s .horizon → KeptFits (keptOf s option start)
@@ -23,6 +45,7 @@ keptOf-fits s fit option start known early =
       high = fit .discountHigh;
       terms = fit .options option noTerms (omega arith);
       from = omega arith;
+      since = since-le option start;
     }
 
 -- its cost is at most 11 payments a year
@@ -34,13 +57,31 @@ keptOf-room s fit option start end known forward inside same e =
 
 module _ (p : PlanningSheet) (option start end : ℕ) where
   pub kept-made :
-      {terms : Terms} {discount : ℕ} → terms ≡ termsOf (p .option option) → discount ≡ 1_000_000 + p .rate
-      → keptOn terms discount start ≡ arcOf p option start end .kept
+      {terms : Terms} {discount since : ℕ} → terms ≡ termsOf (p .option option) → discount ≡ 1_000_000 + p .rate → since ≡ sinceOf option start
+      → keptOn terms discount since start ≡ arcOf p option start end .kept
   unfolding arcOf
-  kept-made t d = λ i. keptOn (t i) (d i) start
+  kept-made t d s = λ i. keptOn (t i) (d i) (s i) start
 
   pub kept-read : (s : Sheet) → s ≡ parsed p → option ≤ 2 → keptOf s option start ≡ arcOf p option start end .kept
-  kept-read s read known = kept-made (terms-read s p read option noTerms (omega arith)) (discount-read s p read)
+  kept-read s read known = kept-made (terms-read s p read option noTerms (omega arith)) (discount-read s p read) refl
+
+  -- Request 4: in year k electricity takes start + k steps in service and no plain ones where the motors are kept; else, and maintenance always,
+  -- as many plain steps as the start, and then k in service.
+  module _ (k : ℕ) where
+    abbrev Takes : Payment → (plainly served : ℕ) → Type 0
+    Takes q plainly served = (q .plainly ≡ plainly) × (q .served ≡ served)
+
+    pub electricity-kept : keepsMotors option ≡ true → Takes (electricity (arcOf p option start end .kept) k) 0 (start + k)
+    unfolding electricity inYear arcOf
+    electricity-kept e = let since = since-kept option start e in (since, omega arith)
+
+    pub electricity-new : keepsMotors option ≡ false → Takes (electricity (arcOf p option start end .kept) k) start k
+    unfolding electricity inYear arcOf
+    electricity-new e = let since = since-new option start e in (since, omega arith)
+
+    pub maintenance-new : Takes (maintenance (arcOf p option start end .kept) k) start k
+    unfolding maintenance inYear arcOf
+    maintenance-new = (refl, omega arith)
 
   -- the cost of the arc, of the option that is kept
   pub cost-paid : (k : Kept) → k ≡ arcOf p option start end .kept → worth k (paid k (end - start)) ≡ cost (arcOf p option start end)

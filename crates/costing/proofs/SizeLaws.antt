@@ -5,7 +5,7 @@
 --     units-small      units are such a figure
 --     overhauls-le, walked-le, paid-le      so these are bounds on what an arc costs
 -- Assumes nothing.
-use Prim.Native.Nat.{ℕ, zero, suc, _+_, _*_, _≤_, _<_}
+use Prim.Native.Nat.{ℕ, zero, suc, _+_, _-_, _*_, _≤_, _<_}
 use mathlib.Core.List.{List}
 use mathlib.Core.Bool.{Bool, true, false}
 use native.Mathlib.Omega.{arith}
@@ -26,20 +26,21 @@ use Rattle.costing.specs.declared.Kept.{Kept}
 use Rattle.costing.proofs.SumLaws as Sum
 
 inYear-le :
-    (discount : ℕ) (w : Flow) (t k : ℕ) → 0 < discount → FlowFits discount w → rounded discount (inYear w t k) ≤ w .amount * 10_000 + k
+    (discount : ℕ) (w : Flow) (s t k : ℕ) → 0 < discount → FlowFits discount w
+    → rounded discount (inYear w s t k) ≤ w .amount * 10_000 + (t - s + k)
 unfolding rounded inYear
-inYear-le discount w t k positive h =
-    let start = repeated t (plain (w .grow) discount) (w .amount * 10_000) in
-    let flat = plains-le (w .grow) discount positive (h .grow .high) t (w .amount * 10_000) in
-    let up = services-le (w .grow) (w .age) discount positive (h .grow .high) (h .product) k start in
+inYear-le discount w s t k positive h =
+    let start = repeated s (plain (w .grow) discount) (w .amount * 10_000) in
+    let flat = plains-le (w .grow) discount positive (h .grow .high) s (w .amount * 10_000) in
+    let up = services-le (w .grow) (w .age) discount positive (h .grow .high) (h .product) (t - s + k) start in
     omega arith
 
 -- a flow's running amount leaves room for its next year
 pub inYear-fits :
-    (discount : ℕ) (w : Flow) (t k : ℕ) → 1_000_000 ≤ discount → discount ≤ 1_200_000 → FlowFits discount w → k ≤ 300
-    → ServiceFits (w .grow) (w .age) discount (rounded discount (inYear w t k))
-inYear-fits discount w t k low high h few =
-    let small = inYear-le discount w t k (omega arith) h in
+    (discount : ℕ) (w : Flow) (s t k : ℕ) → 1_000_000 ≤ discount → discount ≤ 1_200_000 → FlowFits discount w → t ≤ 300 → k ≤ 300
+    → ServiceFits (w .grow) (w .age) discount (rounded discount (inYear w s t k))
+inYear-fits discount w s t k low high h early few =
+    let small = inYear-le discount w s t k (omega arith) h in
     record {
       plainly = record { low = low; high = high; grown = h .grow .high; room = omega arith };
       aged = h .ageHigh;
@@ -48,8 +49,9 @@ inYear-fits discount w t k low high h few =
 
 -- a year of a flow in units
 pub flow-units-le :
-    (discount : ℕ) (w : Flow) (t k : ℕ) → 0 < discount → FlowFits discount w → k ≤ 300 → rounded discount (inYear w t k) ≤ largestPayment
-flow-units-le discount w t k positive fits few = omega (arith, inYear-le discount w t k positive fits, fits .amount)
+    (discount : ℕ) (w : Flow) (s t k : ℕ) → 0 < discount → FlowFits discount w → t ≤ 300 → k ≤ 300
+    → rounded discount (inYear w s t k) ≤ largestPayment
+flow-units-le discount w s t k positive fits early few = omega (arith, inYear-le discount w s t k positive fits, fits .amount)
 
 paidIf-le : (φ : Payment → ℕ) (holds : Bool) (p : Payment) → sumOf φ (paidIf holds p) ≤ φ p
 paidIf-le φ true p = rw (Sum.paidIf-true φ p) (omega arith)
@@ -108,8 +110,8 @@ module _ (a : Kept) (h : KeptFits a) where
       record {
         invested = omega (arith, once-le (a .discount) (v .amount) (v .grow) (a .from) positive (t .investment .grow .high), t .investment .amount);
         overhauled = overhaul-le;
-        maintained = λ k l. flow-units-le (a .discount) (a .terms .maintenance) (a .from) (suc k) positive (t .maintenance) (omega arith);
-        powered = λ k l. flow-units-le (a .discount) (a .terms .electricity) (a .from) (suc k) positive (t .electricity) (omega arith);
+        maintained = λ k l. flow-units-le (a .discount) (a .terms .maintenance) (a .from) (a .from) (suc k) positive (t .maintenance) (h .from) (omega arith);
+        powered = λ k l. flow-units-le (a .discount) (a .terms .electricity) (a .since) (a .from) (suc k) positive (t .electricity) (h .from) (omega arith);
       }
 
   -- what the first k overhauls cost in year n

@@ -1,6 +1,6 @@
 -- Where a walk stands before its first year, and one year on (`walk-zero`, `walk-suc`); a walk of a year or more has paid its arc
 -- (`walk-paid`); and what the overhauls of a year cost, added one by one (`dueBy`). Assumes nothing.
-use Prim.Native.Nat.{ℕ, zero, suc, _+_, _^_, _≤_, _<_}
+use Prim.Native.Nat.{ℕ, zero, suc, _+_, _-_, _^_, _≤_, _<_}
 use mathlib.Core.Path.{_≡_, refl, ap, sym, _∙_}
 use native.Mathlib.Omega.{arith}
 use native.Mathlib.Numerals.{add-one}
@@ -20,16 +20,26 @@ use Rattle.costing.specs.declared.Walk.{Walk}
 use Rattle.costing.proofs.SizeLaws.{overhauls-le, walked-le}
 use Rattle.costing.proofs.SumLaws as Sum
 
--- a flow's running amount at the start, and one year in service on
-pub inYear-zero : (discount : ℕ) (w : Flow) (t : ℕ) → rounded discount (once (w .amount) (w .grow) t) ≡ rounded discount (inYear w t 0)
+-- a flow's running amount at the start: after the steps in service before it, or new; and one year in service on
+pub inYear-zero :
+    (discount : ℕ) (w : Flow) (s t plainly served : ℕ) {a m : ℕ} → plainly ≡ s → served ≡ t - s
+    → a ≡ rounded discount (once (w .amount) (w .grow) plainly) → m ≡ repeated served (inService (w .grow) (w .age) discount) a
+    → m ≡ rounded discount (inYear w s t 0)
 unfolding rounded once inYear repeated
-inYear-zero discount w t = refl
+inYear-zero discount w s t plainly served p q now steps =
+    let same : t - s + 0 ≡ served = omega arith in
+    rw (same, ← p) (steps ∙ ap (repeated served (inService (w .grow) (w .age) discount)) now)
+
+pub inYear-new : (discount : ℕ) (w : Flow) (t : ℕ) → rounded discount (once (w .amount) (w .grow) t) ≡ rounded discount (inYear w t t 0)
+unfolding repeated
+inYear-new discount w t = inYear-zero discount w t t t 0 refl (omega arith) refl refl
 
 pub inYear-suc :
-    (discount : ℕ) (w : Flow) (t n : ℕ) {a m : ℕ}
-    → a ≡ rounded discount (inYear w t n) → m ≡ inService (w .grow) (w .age) discount a → m ≡ rounded discount (inYear w t (suc n))
+    (discount : ℕ) (w : Flow) (s t n : ℕ) {a m : ℕ}
+    → a ≡ rounded discount (inYear w s t n) → m ≡ inService (w .grow) (w .age) discount a → m ≡ rounded discount (inYear w s t (suc n))
 unfolding rounded inYear repeated
-inYear-suc discount w t n now step = step ∙ ap (inService (w .grow) (w .age) discount) now
+inYear-suc discount w s t n now step =
+    let more : t - s + suc n ≡ suc (t - s + n) = omega arith in rw more (step ∙ ap (inService (w .grow) (w .age) discount) now)
 
 -- a walk of which the figures are given
 abbrev pub walk : (cost maintenance electricity years : ℕ) → Walk
@@ -40,11 +50,13 @@ walkAt-cost : (a : Kept) (n : ℕ) → walkAt a n .cost .0 ≡ worth a (walked a
 unfolding walkAt
 walkAt-cost a n = refl
 
-pub walkAt-maintenance : (a : Kept) (n : ℕ) → walkAt a n .maintenance .0 ≡ rounded (a .discount) (inYear (a .terms .maintenance) (a .from) n)
+pub walkAt-maintenance :
+    (a : Kept) (n : ℕ) → walkAt a n .maintenance .0 ≡ rounded (a .discount) (inYear (a .terms .maintenance) (a .from) (a .from) n)
 unfolding walkAt maintenance
 walkAt-maintenance a n = refl
 
-pub walkAt-electricity : (a : Kept) (n : ℕ) → walkAt a n .electricity .0 ≡ rounded (a .discount) (inYear (a .terms .electricity) (a .from) n)
+pub walkAt-electricity :
+    (a : Kept) (n : ℕ) → walkAt a n .electricity .0 ≡ rounded (a .discount) (inYear (a .terms .electricity) (a .since) (a .from) n)
 unfolding walkAt electricity
 walkAt-electricity a n = refl
 
@@ -57,13 +69,13 @@ pub walk-zero :
     → by ≡ a .discount
     → c ≡ rounded by (once (a .terms .investment .amount) (a .terms .investment .grow) (a .from))
     → m ≡ rounded by (once (a .terms .maintenance .amount) (a .terms .maintenance .grow) (a .from))
-    → e ≡ rounded by (once (a .terms .electricity .amount) (a .terms .electricity .grow) (a .from))
+    → e ≡ rounded by (electricity a 0)
     → walk c m e 0 ≡ walkAt a 0
 unfolding walkAt investment maintenance electricity
 walk-zero a number p q s =
     let p' = rw number at p ∙ sym (Sum.walked-zero (rounded (a .discount)) a) in
-    let q' = rw number at q ∙ inYear-zero (a .discount) (a .terms .maintenance) (a .from) in
-    let s' = rw number at s ∙ inYear-zero (a .discount) (a .terms .electricity) (a .from) in
+    let q' = rw number at q ∙ inYear-new (a .discount) (a .terms .maintenance) (a .from) in
+    let s' = rw number at s in
     λ i. walk (p' i) (q' i) (s' i) 0
 
 module _ (a : Kept) (w : Walk) (stands : w ≡ walkAt a (w .years)) (due m e : ℕ)
@@ -73,13 +85,13 @@ module _ (a : Kept) (w : Walk) (stands : w ≡ walkAt a (w .years)) (due m e : �
   next-maintenance : m ≡ rounded (a .discount) (maintenance a (suc (w .years)))
   unfolding maintenance
   next-maintenance =
-      inYear-suc (a .discount) (a .terms .maintenance) (a .from) (w .years)
+      inYear-suc (a .discount) (a .terms .maintenance) (a .from) (a .from) (w .years)
       (ap (λ (x : Walk). x .maintenance .0) stands ∙ walkAt-maintenance a (w .years)) (rw number at serves)
 
   next-electricity : e ≡ rounded (a .discount) (electricity a (suc (w .years)))
   unfolding electricity
   next-electricity =
-      inYear-suc (a .discount) (a .terms .electricity) (a .from) (w .years)
+      inYear-suc (a .discount) (a .terms .electricity) (a .since) (a .from) (w .years)
       (ap (λ (x : Walk). x .electricity .0) stands ∙ walkAt-electricity a (w .years)) (rw number at powers)
 
   next-cost : w .cost .0 + due + m + e ≡ worth a (walked a (suc (w .years)))

@@ -2,10 +2,10 @@
 use Prim.Native.Nat.{ℕ, zero, suc, _+_, _-_}
 use mathlib.Core.List.{List, [], _∷_, _++_}
 use mathlib.Core.Bool.{Bool, cond}
-use lib.Dec.{ltb}
+use lib.Dec.{eqb, ltb}
 use lib.ListN.{getD}
 use Rattle.base.specs.Lists.{sumOf}
-use Rattle.sheet.specs.Sheet.{PlanningSheet}
+use Rattle.sheet.specs.Sheet.{PlanningSheet, renovate}
 use Rattle.sheet.specs.Parsed.{termsOf, noTerms}
 use Rattle.sheet.specs.declared.Flow.{Flow}
 use Rattle.sheet.specs.declared.Sheet.{Sheet}
@@ -14,47 +14,57 @@ use Rattle.steps.specs.Payment.{Payment, rounded, once}
 use Rattle.steps.specs.Exact.{exact}
 use Rattle.costing.specs.declared.Kept.{Kept}
 
--- An arc is an option kept from year t to year t + n. `kept` has the option's terms, the discount factor and t (all that is known of an
--- arc before its end), `years` is n, and `horizon` is T.
+-- An arc is an option kept from year t to year t + n. `kept` has the option's terms, the discount factor, the year since which its motors are
+-- in service, and t (all that is known of an arc before its end), `years` is n, and `horizon` is T.
 pub record Arc : Type 0 where
   pub kept : Kept
   pub years : ℕ
   pub horizon : ℕ
 
--- an option on its terms, kept from a year on: every `Kept` is made by this
-abbrev pub keptOn : Terms → (discount start : ℕ) → Kept
-keptOn terms discount start = record { terms = terms; discount = discount; from = start }
+-- Renovating renews the building, while the motors go on ageing (document 02, request 4): every other option has new ones.
+abbrev pub keepsMotors : (option : ℕ) → Bool
+keepsMotors option = eqb option renovate
 
--- an option of a sheet as the code holds it, and the same option kept from another year
+-- the year since which the motors of an option that starts in a year are in service: that year, or year 0 if they are kept
+unfoldable pub sinceOf : (option start : ℕ) → ℕ
+sinceOf option start = cond (keepsMotors option) 0 start
+
+-- an option on its terms with motors in service since a year, kept from a year on: every `Kept` is made by this
+abbrev pub keptOn : Terms → (discount since start : ℕ) → Kept
+keptOn terms discount since start = record { terms = terms; discount = discount; since = since; from = start }
+
+-- an option of a sheet as the code holds it, and the same option kept from another year, with new motors
 abbrev pub keptOf : Sheet → (option start : ℕ) → Kept
-keptOf s option start = keptOn (getD (s .options) option noTerms) (s .discount) start
+keptOf s option start = keptOn (getD (s .options) option noTerms) (s .discount) (sinceOf option start) start
 
 abbrev pub keptFrom : Kept → (start : ℕ) → Kept
-keptFrom a start = keptOn (a .terms) (a .discount) start
+keptFrom a start = keptOn (a .terms) (a .discount) start start
 
 -- the arc of a sheet's option from a start to an end
 unfoldable pub arcOf : PlanningSheet → (option start end : ℕ) → Arc
 arcOf p option start end =
     record {
-      kept = keptOn (termsOf (p .option option)) (1_000_000 + p .rate) start;
+      kept = keptOn (termsOf (p .option option)) (1_000_000 + p .rate) (sinceOf option start) start;
       years = end - start;
       horizon = p .horizon;
     }
 
--- what a flow, an amount paid each year with the factors of its rates, pays in its k-th year of service, which began in year t
-unfoldable pub inYear : Flow → (t k : ℕ) → Payment
-inYear w t k = record { amount = w .amount; grow = w .grow; age = w .age; plainly = t; served = k }
+-- What a flow, an amount paid each year with the factors of its rates, pays in year k of an arc from year t, if it is in service since year
+-- s: after s plain steps, and then a step in service for each of the t − s years before the arc and of the k years in it.
+unfoldable pub inYear : Flow → (s t k : ℕ) → Payment
+inYear w s t k = record { amount = w .amount; grow = w .grow; age = w .age; plainly = s; served = t - s + k }
 
 -- the investment after t plain steps
 unfoldable pub investment : Kept → Payment
 investment a = once (a .terms .investment .amount) (a .terms .investment .grow) (a .from)
 
--- maintenance after t plain steps and then k in-service steps; electricity in the same way, with its own f and g
+-- maintenance after t plain steps and then k in-service steps
 unfoldable pub maintenance : Kept → ℕ → Payment
-maintenance a k = inYear (a .terms .maintenance) (a .from) k
+maintenance a k = inYear (a .terms .maintenance) (a .from) (a .from) k
 
+-- electricity in the same way, with its own f and g; where motors are kept, after t + k in-service steps and no plain ones
 unfoldable pub electricity : Kept → ℕ → Payment
-electricity a k = inYear (a .terms .electricity) (a .from) k
+electricity a k = inYear (a .terms .electricity) (a .since) (a .from) k
 
 -- the age of the j-th overhaul, from 0, and the overhaul itself, after t + age plain steps
 unfoldable pub ageOf : Kept → ℕ → ℕ

@@ -1,5 +1,6 @@
--- The bytes of the sheets of document 01's cases 6 to 12, of a sheet whose fields all differ, and of sheets with nothing to pay. Definitions only.
-use Prim.Native.Nat.{ℕ}
+-- The bytes of the sheets of document 01's cases 6 to 12, of sheets whose motors age, of a sheet whose fields all differ, and of sheets with nothing
+-- to pay. Definitions only.
+use Prim.Native.Nat.{ℕ, _-_, _*_}
 use mathlib.Core.List.{List, [], _∷_, _++_}
 use lib.ListN.{replicate}
 use lib.Seq.{sets}
@@ -38,6 +39,22 @@ sheet11 = replaceSheet 3 0 1 2 0 1 noOverhaul
 
 abbrev pub sheet12 : List ℕ
 sheet12 = replaceSheet 4 0 1 3 10 1 (oneOverhaul 2 15)
+
+-- only one option offered, T = 3, lives 1 to 2, r 40,000: electricity of 1 with g 20,000, and maintenance with g 20,000 too
+abbrev pub motorSheet : (option maintenance : ℕ) → List ℕ
+motorSheet option maintenance =
+    headerBytes 3 40_000
+    ++ replicate (89 * option) 0
+    ++ recordBytes 1 2 (0 ∷ 0 ∷ maintenance ∷ 0 ∷ 20_000 ∷ 1 ∷ 0 ∷ 20_000 ∷ 0 ∷ []) noOverhaul
+    ++ replicate (89 * (2 - option)) 0
+
+-- T = 2, r 40,000, all lives 1: maintaining costs nothing, renovating has electricity of 1 with g 20,000, replacing with g 30,000
+abbrev pub oldMotorsSheet : List ℕ
+oldMotorsSheet =
+    headerBytes 2 40_000
+    ++ recordBytes 1 1 (replicate 9 0) noOverhaul
+    ++ recordBytes 1 1 (0 ∷ 0 ∷ 0 ∷ 0 ∷ 0 ∷ 1 ∷ 0 ∷ 20_000 ∷ 0 ∷ []) noOverhaul
+    ++ recordBytes 1 1 (0 ∷ 0 ∷ 0 ∷ 0 ∷ 0 ∷ 1 ∷ 0 ∷ 30_000 ∷ 0 ∷ []) noOverhaul
 
 -- a sheet with T = 9 and r 50,000 that offers all options, each with two overhauls: no field is 0, no two fields of a record are equal, and no two
 -- rates, amounts or lives of the sheet

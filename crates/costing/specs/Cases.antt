@@ -1,5 +1,6 @@
 -- Arcs costed, a list of what the rules give beside what it should be: document 01's cases 6 to 8, worked out again as request 1
--- asks, an arc of each option of a sheet whose fields all differ, and each reason of refusal 13. `CaseLaws.antt` evaluates them. Definitions only.
+-- asks, an arc of each option of a sheet whose fields all differ, arcs with motors that age, and each reason of refusal 13. `CaseLaws.antt`
+-- evaluates them. Definitions only.
 use Prim.Native.Nat.{ℕ}
 use mathlib.Core.List.{List, [], _∷_}
 use lib.Seq.{sets}
@@ -7,9 +8,10 @@ use Rattle.base.specs.Answer.{accepted, refused}
 use Rattle.base.specs.Cases.{Case}
 use Rattle.base.specs.declared.Answer.{Answer}
 use Rattle.sheet.specs.CaseBytes.{bytes32}
+use Rattle.sheet.specs.Sheet.{renovate, replace}
 use Rattle.checking.specs.CaseSheets.{rateAt}
 use Rattle.costing.specs.Costing.{costed}
-use Rattle.costing.specs.CaseSheets.{noOverhaul, oneOverhaul, arcSheet, distinctSheet, without}
+use Rattle.costing.specs.CaseSheets.{noOverhaul, oneOverhaul, arcSheet, motorSheet, distinctSheet, without}
 
 -- what costing answers for an option of a sheet, from a start to an end
 abbrev pub costCase : (sheet : List ℕ) (option start end : ℕ) → Answer → Case
@@ -26,8 +28,23 @@ casesSixToEight =
 abbrev pub casesOfArcs : List Case
 casesOfArcs =
     costCase distinctSheet 0 0 5 (accepted 155_914_852)
-    ∷ costCase distinctSheet 1 2 8 (accepted 249_286_573)
+    ∷ costCase distinctSheet 1 2 8 (accepted 254_415_330)
     ∷ costCase distinctSheet 2 3 8 (accepted 342_396_093)
+    ∷ []
+
+-- request 4: the motors of a renovation are in service since year 0, which tells where g is above 0 and the start is
+abbrev pub casesOfMotors : List Case
+casesOfMotors =
+    -- 9,432 with new motors
+    costCase (motorSheet renovate 0) renovate 1 2 (accepted 9_621)
+    -- 18,683 with new motors
+    ∷ costCase (motorSheet renovate 0) renovate 1 3 (accepted 19_058)
+    -- from year 0 on they are as old as the arc
+    ∷ costCase (motorSheet renovate 0) renovate 0 2 (accepted 19_429)
+    -- maintenance ages from the start: 19,242 if it aged from year 0 too
+    ∷ costCase (motorSheet renovate 1) renovate 1 2 (accepted 19_053)
+    -- a replacement has new motors
+    ∷ costCase (motorSheet replace 0) replace 1 2 (accepted 9_432)
     ∷ []
 
 -- refusal 13, each reason beside an arc that does not have it

@@ -1,9 +1,9 @@
 -- What the code of an arc asks so that 64 bits suffice. `SizeLaws.antt` and `SheetArcLaws.antt` derive it from the facts of the check.
 -- Definitions only.
 use Prim.Native.Nat.{ℕ, suc, _*_, _≤_, _<_, _+_}
-use mathlib.Core.Path.{_≡_}
-use mathlib.Core.List.{List}
-use Rattle.checking.specs.Fit.{TermsFit}
+use Rattle.sheet.specs.declared.Flow.{Flow}
+use Rattle.checking.specs.Fit.{FlowFits, TermsFit}
+use Rattle.division.specs.Division.{DivisorReady}
 use Rattle.division.specs.declared.Divisor.{Divisor}
 use Rattle.steps.specs.Step.{above, below}
 use Rattle.steps.specs.Payment.{Payment}
@@ -15,12 +15,20 @@ use Rattle.costing.specs.declared.Kept.{Kept}
 abbrev pub yearly : ℕ
 yearly = 11 * largestPayment
 
--- an option of a sheet that passes the checks, kept from a year up to 300
+-- a flow of a sheet that passes the checks, with the divisor of its discount factor at hand
+pub record FlowSteps (d : Divisor) (w : Flow) : Type 0 where
+  pub ready : DivisorReady d
+  pub low : 1_000_000 ≤ d .by
+  pub high : d .by ≤ 1_200_000
+  pub fits : FlowFits (d .by) w
+
+-- an option of a sheet that passes the checks, kept from a year up to 300, with motors that are not newer
 pub record KeptFits (a : Kept) : Type 0 where
   pub low : 1_000_000 ≤ a .discount
   pub high : a .discount ≤ 1_200_000
   pub terms : TermsFit (a .discount) (a .terms)
   pub from : a .from ≤ 300
+  pub since : a .since ≤ a .from
 
 -- a figure that is at most `largestPayment` of each payment of an arc of n years
 pub record Small (φ : Payment → ℕ) (a : Kept) (n : ℕ) : Type 0 where
@@ -33,11 +41,6 @@ pub record Small (φ : Payment → ℕ) (a : Kept) (n : ℕ) : Type 0 where
 pub record Steppable (a : Kept) (d : Divisor) : Type 0 where
   pub fits : KeptFits a
   pub divides : Divides d (a .discount)
-
--- the same, with the ages of its overhauls lent: an option whose arcs a loop can walk
-pub record Walkable (a : Kept) (d : Divisor) (lent : List ℕ) : Type 0 where
-  pub steps : Steppable a d
-  pub ages : lent ≡ a .terms .overhauls .ages
 
 -- an arc of an option that passes the checks, by the horizon
 pub record ArcFits (a : Arc) : Type 0 where

@@ -7,12 +7,13 @@ ghost use Rattle.base.specs.Lists.{sumOf};
 ghost use Rattle.division.specs.Division.{DivisorReady};
 ghost use Rattle.steps.specs.Payment.{rounded, once};
 ghost use Rattle.steps.specs.Fit.{PlainFits};
-ghost use Rattle.costing.specs.Arc.{paidIf, paid, worth};
-ghost use Rattle.costing.specs.Fit.{Steppable};
+ghost use Rattle.costing.specs.Arc.{inYear, paidIf, paid, worth};
+ghost use Rattle.costing.specs.Fit.{FlowSteps, Steppable};
 ghost use Rattle.costing.specs.Walk.{overhaulsAt, walkAt};
 use crate::Kept;
 use crate::Walk;
 use division::Divisor;
+use sheet::Flow;
 use steps::Units;
 use steps::paid_once;
 
@@ -26,6 +27,16 @@ fn overhaul_at(age: u64, amount: u64, grow: u64, discount: Divisor, from: u64, n
         return paid_once(amount, grow, discount, from + n);
     }
     Units(0)
+}
+
+// Where the running amount of a flow stands at the start of an arc from a year, if the flow is in service since an earlier one.
+pub fn running(flow: Flow, discount: Divisor, since: u64, from: u64) -> Units
+    requires { ⌜ FlowSteps discount flow × (since ≤ from) × (from ≤ 300) ⌝ }
+    ensures { λ r. ⌜ r .0 ≡ rounded (discount .by) (inYear flow since from 0) ⌝ }
+{
+    let served = from - since;
+    let new = paid_once(flow.amount, flow.grow, discount, since);
+    new.service_years(flow.grow, flow.age, discount, served)
 }
 
 impl Kept {
@@ -54,11 +65,10 @@ impl Kept {
         let terms = self.terms;
         let i = terms.investment;
         let m = terms.maintenance;
-        let e = terms.electricity;
         Walk {
             cost: paid_once(i.amount, i.grow, discount, self.from),
             maintenance: paid_once(m.amount, m.grow, discount, self.from),
-            electricity: paid_once(e.amount, e.grow, discount, self.from),
+            electricity: running(terms.electricity, discount, self.since, self.from),
             years: 0,
         }
     }

@@ -1,5 +1,6 @@
 // What an arc costs: document 01, 'What an arc costs'.
-// The public call is `cost`. The structs with their methods, `kept_of`, `arc_cost` and `offer::offered` serve the crates above.
+// The public call is `cost`. The structs with their methods, `keeps_motors`, `kept_of`, `arc_cost`, `arc::running`
+// and `offer::offered` serve the crates above.
 
 ghost use mathlib.Core.Path.{_≡_};
 ghost use mathlib.Core.Logic.{_↔_};
@@ -8,7 +9,7 @@ ghost use Rattle.sheet.specs.Sheet.{PlanningSheet, sheetOf};
 ghost use Rattle.sheet.specs.Parsed.{parsed};
 ghost use Rattle.checking.specs.Passes.{Passes};
 ghost use Rattle.checking.specs.Fit.{Fit};
-ghost use Rattle.costing.specs.Arc.{keptOn, keptOf, keptFrom, arcOf, cost};
+ghost use Rattle.costing.specs.Arc.{keepsMotors, sinceOf, keptOn, keptOf, keptFrom, arcOf, cost};
 ghost use Rattle.costing.specs.Offered.{Offered};
 ghost use Rattle.costing.specs.Costing.{costed};
 ghost use Rattle.costing.specs.Error.{WithinAllowance};
@@ -16,18 +17,21 @@ ghost use Rattle.costing.specs.Fit.{yearly};
 use base::Answer;
 use base::order;
 use division::Divisor;
+use sheet::RENOVATE;
 use sheet::REPLACE;
 use sheet::Sheet;
 use sheet::Terms;
 use steps::Units;
 
-mod arc;
+pub mod arc;
 pub mod offer;
 
-// An option kept from a year on: an arc whose end is not given yet. `discount` is 1,000,000 + the real discount rate.
+// An option kept from a year on: an arc whose end is not given yet. `discount` is 1,000,000 + the real discount rate, and `since` the year
+// since which its motors are in service.
 pub struct Kept {
     pub terms: Terms,
     pub discount: u64,
+    pub since: u64,
     pub from: u64,
 }
 
@@ -39,13 +43,31 @@ pub struct Walk {
     pub years: u64,
 }
 
-// An option on its terms, kept from a year on: every `Kept` is made by this.
-fn kept_on(terms: Terms, discount: u64, start: u64) -> Kept
-    ensures { λ r. ⌜ r ≡ keptOn terms discount start ⌝ }
+// Whether an option goes on with the motors of year 0.
+pub fn keeps_motors(option: u64) -> bool
+    ensures { λ b. ⌜ b ≡ keepsMotors option ⌝ }
+{
+    option == RENOVATE
+}
+
+// The year since which the motors of an option that starts in a year are in service.
+fn since_of(option: u64, start: u64) -> u64
+    ensures { λ r. ⌜ r ≡ sinceOf option start ⌝ }
+{
+    if keeps_motors(option) {
+        return 0;
+    }
+    start
+}
+
+// An option on its terms with motors in service since a year, kept from a year on: every `Kept` is made by this.
+fn kept_on(terms: Terms, discount: u64, since: u64, start: u64) -> Kept
+    ensures { λ r. ⌜ r ≡ keptOn terms discount since start ⌝ }
 {
     Kept {
         terms: terms,
         discount: discount,
+        since: since,
         from: start,
     }
 }
@@ -56,16 +78,16 @@ pub fn kept_of(sheet: Sheet, option: u64, start: u64) -> Kept
     ensures { λ r. ⌜ r ≡ keptOf sheet option start ⌝ }
 {
     let terms = sheet.options[option as usize];
-    kept_on(terms, sheet.discount, start)
+    kept_on(terms, sheet.discount, since_of(option, start), start)
 }
 
 impl Kept {
-    // The same option, kept from another year.
+    // The same option, kept from another year, with new motors.
     pub fn starting(self, start: u64) -> Kept
         ensures { λ r. ⌜ r ≡ keptFrom self start ⌝ }
     {
         let terms = self.terms;
-        kept_on(terms, self.discount, start)
+        kept_on(terms, self.discount, start, start)
     }
 }
 
@@ -96,7 +118,7 @@ pub fn cost(sheet: &[u8], option: u64, start: u64, end: u64) -> Answer
         return base::refused(13, 3);
     }
     let discount = sheet::discount_of(sheet);
-    let kept = kept_on(terms, discount, start);
+    let kept = kept_on(terms, discount, since_of(option, start), start);
     let units = kept.cost(Divisor::of(discount), end - start);
     base::accepted(units.0)
 }

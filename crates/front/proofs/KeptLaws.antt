@@ -20,18 +20,17 @@ use Rattle.division.specs.declared.Divisor.{Divisor}
 use Rattle.steps.specs.Fit.{Divides}
 use Rattle.costing.specs.Arc.{keptOf, costTo}
 use Rattle.costing.specs.Offered.{placed, offered}
-use Rattle.costing.specs.Fit.{Walkable}
 use Rattle.costing.specs.declared.Kept.{Kept}
 use Rattle.costing.proofs.SheetArcLaws.{keptOf-fits, kept-read, cost-le}
 use Rattle.costing.proofs.OfferedLaws.{placed-iff, offered-iff}
 use Rattle.choice.specs.Running.{Entry, noEntry, entries, weigh, overEnds}
 use Rattle.choice.proofs.RunningLaws.{over-zero, over-offered, over-first}
-use Rattle.streams.specs.Streams.{Streams, Lent}
+use Rattle.streams.specs.Streams.{Lent}
 use Rattle.weighing.specs.Best.{inShort, numbers}
-use Rattle.weighing.specs.Ends.{bestTo, wordOf, WordsFit, WordsBehind}
+use Rattle.weighing.specs.Ends.{bestTo, wordOf, WordsFit, WordsBehind, Walks}
 use Rattle.weighing.specs.declared.Best.{Best}
 use Rattle.weighing.proofs.BestLaws.{weigh-inShort}
-use Rattle.weighing.proofs.SheetEndLaws.{ends-over}
+use Rattle.weighing.proofs.SheetEndLaws.{lent-walks, ends-over}
 use Rattle.tails.specs.Tail.{bestEnd, tailFrom}
 use Rattle.tails.proofs.YearLaws.{words-fit}
 use Rattle.front.specs.Planned.{renovated, planned}
@@ -115,10 +114,10 @@ pub lent-asks :
     (s : Sheet) → Fit s → (d : Divisor) → Divides d (s .discount)
     → (option y : ℕ) (streams ages words : List ℕ) → option ≤ 2 → y ≤ s .horizon → Lent s option streams ages
     → yearPlaces ≤ length words → WordsFit (s .horizon) y words → {a : Kept} → a ≡ keptOf s option y
-    → (Walkable a d ages × Streams (a .discount) (a .terms) (s .horizon) streams) × WordsBehind a (s .horizon) words
+    → Walks a d (s .horizon) streams ages × WordsBehind a (s .horizon) words
 lent-asks s fit d divides option y streams ages words known early lent room fits same =
     rw same (
-      (record { steps = record { fits = keptOf-fits s fit option y known early; divides = divides }; ages = lent .1 }, lent .0),
+      lent-walks s d option y streams ages (keptOf-fits s fit option y known early) divides early lent,
       record { early = early; far = fit .horizonHigh; room = omega (arith, fit .horizonHigh); fits = fits },
     )
 

@@ -1,9 +1,7 @@
 // Maintaining and renovating alike: an option that may also have length 0.
 
 ghost use mathlib.Core.Path.{_≡_};
-ghost use Rattle.costing.specs.Fit.{Walkable};
-ghost use Rattle.streams.specs.Streams.{Streams};
-ghost use Rattle.weighing.specs.Ends.{wordOf, WordsBehind};
+ghost use Rattle.weighing.specs.Ends.{Walks, wordOf, WordsBehind};
 ghost use Rattle.front.specs.Front.{bestKept};
 use costing::Kept;
 use division::Divisor;
@@ -19,8 +17,7 @@ pub fn best_from(
     discount: Divisor,
     horizon: u64,
 ) -> Best
-    requires { ⌜ Walkable kept discount (now ages) × Streams (kept .discount) (kept .terms) horizon (now streams) ⌝ }
-    requires { ⌜ WordsBehind kept horizon (now words) ⌝ }
+    requires { ⌜ Walks kept discount horizon (now streams) (now ages) × WordsBehind kept horizon (now words) ⌝ }
     ensures { λ r. ⌜ r ≡ bestKept kept horizon (wordOf (now (words .entry))) ⌝ }
 {
     let from = kept.from;

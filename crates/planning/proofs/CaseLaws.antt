@@ -9,7 +9,7 @@ use Rattle.sheet.specs.Parsed.{flowOf, overhaulsOf, termsOf}
 use Rattle.checking.specs.Refusals.{inflationOk, inflationsOk, ageingOk, ageingsOk, ageBefore, overhaulOk, headerNumber, fieldsNumber, overhaulAnswer, firstBelow, optionAnswer, checked}
 use Rattle.steps.specs.Step.{divided, plain, inService, repeated}
 use Rattle.steps.specs.Payment.{rounded, once}
-use Rattle.costing.specs.Arc.{arcOf, inYear, investment, maintenance, electricity, ageOf, overhaul, forEach, paidIf, overhaulsBelow, paid, payments, cost}
+use Rattle.costing.specs.Arc.{sinceOf, arcOf, inYear, investment, maintenance, electricity, ageOf, overhaul, forEach, paidIf, overhaulsBelow, paid, payments, cost}
 use Rattle.costing.specs.Offered.{offered}
 use Rattle.costing.specs.Costing.{costing, costed}
 use Rattle.choice.specs.Running.{weigh, overEnds}
@@ -23,10 +23,10 @@ use Rattle.planning.specs.Cases.{casesOneToTwelve, casesOfPlanning}
 
 -- both lists at once, by the same definitions
 cases-hold : AllHold casesOneToTwelve × AllHold casesOfPlanning
-unfolding u16At u32At i32At expenseAt onceAt optionAt sheetOf factor flowOf overhaulsOf termsOf _unless_else_ inflationOk inflationsOk ageingOk ageingsOk ageBefore overhaulOk headerNumber fieldsNumber overhaulAnswer firstBelow optionAnswer checked sumOf divided plain inService repeated rounded arcOf once inYear investment maintenance electricity ageOf overhaul forEach paidIf overhaulsBelow paid payments cost offered costing costed bytesOf endBytes header encode weigh overEnds table entry bestEnd tailFrom renovated planned planning planAnswer planAfter wordsAfter ofYears tails
+unfolding u16At u32At i32At expenseAt onceAt optionAt sheetOf factor flowOf overhaulsOf termsOf _unless_else_ inflationOk inflationsOk ageingOk ageingsOk ageBefore overhaulOk headerNumber fieldsNumber overhaulAnswer firstBelow optionAnswer checked sumOf divided plain inService repeated rounded sinceOf arcOf once inYear investment maintenance electricity ageOf overhaul forEach paidIf overhaulsBelow paid payments cost offered costing costed bytesOf endBytes header encode weigh overEnds table entry bestEnd tailFrom renovated planned planning planAnswer planAfter wordsAfter ofYears tails
 cases-hold = (
   (refl, (refl, (refl, (refl, (refl, (refl, (refl, (refl, (refl, (refl, (refl, (refl, tt)))))))))))),
-  (refl, (refl, (refl, (refl, (refl, (refl, (refl, (refl, (refl, (refl, (refl, (refl, tt)))))))))))),
+  (refl, (refl, (refl, (refl, (refl, (refl, (refl, (refl, (refl, (refl, (refl, (refl, (refl, tt))))))))))))),
 )
 
 pub twelve-cases-hold : AllHold casesOneToTwelve

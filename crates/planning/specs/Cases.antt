@@ -7,7 +7,7 @@ use Rattle.base.specs.Answer.{accepted, refused}
 use Rattle.base.specs.Cases.{Case}
 use Rattle.base.specs.declared.Answer.{Answer}
 use Rattle.steps.specs.Cases.{casesOneToFive}
-use Rattle.costing.specs.CaseSheets.{sheet9, sheet10, sheet11, sheet12, freeSheet}
+use Rattle.costing.specs.CaseSheets.{sheet9, sheet10, sheet11, sheet12, oldMotorsSheet, freeSheet}
 use Rattle.costing.specs.Cases.{casesSixToEight}
 use Rattle.chain.specs.CasePlans.{planOf}
 use Rattle.tails.specs.Cases.{absent}
@@ -43,6 +43,10 @@ total11 = 48 ∷ 117 ∷ replicate 6 0
 abbrev pub total12 : List ℕ
 total12 = 128 ∷ 169 ∷ 3 ∷ replicate 5 0
 
+-- 9,525 = 37 × 256 + 53
+abbrev pub totalOfMotors : List ℕ
+totalOfMotors = 53 ∷ 37 ∷ replicate 6 0
+
 -- (9) refused 11; (10) accepted; (11) ends 2, 3, total 30,000; (12) ends 2, 4, total 240,000
 abbrev pub casesNineToTwelve : List Case
 casesNineToTwelve =
@@ -63,6 +67,8 @@ casesOfPlanning =
     ∷ planCase (freeSheet 1 1 1 1 1 2) 23 (accepted 0) (planOf total10 1 2 (3 ∷ []) ++ replicate 2 255)
     ∷ planCase (freeSheet 0 0 1 2 1 1) 23 (accepted 0) (planOf total10 0 2 (3 ∷ []) ++ replicate 2 255)
     ∷ planCase (freeSheet 0 0 0 0 1 2) 23 (accepted 0) (planOf total10 0 0 (2 ∷ 3 ∷ []))
+    -- renovating with motors a year old costs more than a replacement's 9,525; with new ones it would cost 9,432 and be planned
+    ∷ planCase oldMotorsSheet 23 (accepted 9_525) (planOf totalOfMotors 1 1 (2 ∷ []) ++ replicate 2 255)
     -- the bytes behind the plan are left; a buffer that is a byte too short is left; no chain comes before no room
     ∷ planCase sheet12 25 (accepted 240_000) (planOf total12 0 0 (2 ∷ 4 ∷ []) ++ (255 ∷ 255 ∷ []))
     ∷ planCase sheet12 22 (refused 12 3) (replicate 22 255)

@@ -1,5 +1,5 @@
--- Plans priced: the plans of document 01's cases 11 and 12, with the totals it gives them, other chains of case 12's sheet, worked out by
--- hand from the rules, and plans that are refused. The bytes are written out, not encoded. Definitions only.
+-- Plans priced: the plans of document 01's cases 11 and 12, with the totals it gives them, other chains of case 12's sheet and a renovation, worked
+-- out by hand from the rules, and plans that are refused. The bytes are written out, not encoded. Definitions only.
 use Prim.Native.Nat.{ℕ}
 use mathlib.Core.List.{List, [], _∷_, _++_}
 use lib.ListN.{take, replicate}
@@ -7,7 +7,7 @@ use lib.Seq.{sets}
 use Rattle.base.specs.Answer.{accepted, refused}
 use Rattle.base.specs.Cases.{Case}
 use Rattle.base.specs.declared.Answer.{Answer}
-use Rattle.costing.specs.CaseSheets.{sheet11, sheet12, freeSheet}
+use Rattle.costing.specs.CaseSheets.{sheet11, sheet12, oldMotorsSheet, freeSheet}
 use Rattle.chain.specs.CasePlans.{planOf, replacing}
 use Rattle.pricing.specs.Pricing.{priced}
 
@@ -30,6 +30,9 @@ casesOfPricing =
     -- not least: four times 10 and 1; and 10, 3 and 15, then 10 and 1
     ∷ pricedCase sheet12 (replacing 0 (1 ∷ 2 ∷ 3 ∷ 4 ∷ [])) 440_000
     ∷ pricedCase sheet12 (replacing 0 (3 ∷ 4 ∷ [])) 390_000
+    -- a year renovated with motors a year old, where new ones would give 9,432, and a year of a replacement
+    ∷ pricedCase oldMotorsSheet (planOf (replicate 8 0) 1 2 []) 9_621
+    ∷ pricedCase oldMotorsSheet (planOf (replicate 8 0) 1 1 (2 ∷ [])) 9_525
     -- it stops before T, or goes past it; two ends are equal; a life of longest + 1; a byte behind the plan
     ∷ refusedCase sheet12 (replacing 0 (2 ∷ 3 ∷ []))
     ∷ refusedCase sheet12 (replacing 0 (2 ∷ 5 ∷ []))

@@ -37,9 +37,9 @@ pub once-year : (amount grow y : ℕ) → year (once amount grow y) ≡ y
 unfolding once year
 once-year amount grow y = add-zero y
 
-pub flow-year : (w : Flow) (t k : ℕ) → year (inYear w t k) ≡ t + k
+pub flow-year : (w : Flow) (s t k : ℕ) → s ≤ t → year (inYear w s t k) ≡ t + k
 unfolding inYear year
-flow-year w t k = refl
+flow-year w s t k old = omega arith
 
 pub investment-year : (a : Kept) → year (investment a) ≡ a .from
 unfolding investment
@@ -144,20 +144,21 @@ module _ (last : ℕ) (φ : Payment → ℕ) where
   raised-late l q h y = omega (arith, sumOf-one (falling (upTo last φ) y) q, falls-late y q h)
 
   -- the years of a flow behind the last raise none either: of n years those up to the last are enough, and none if it starts behind it
-  module _ (w : Flow) (t : ℕ) where
-    late-year : (y j : ℕ) → last < t + suc j → sumOf (falling (upTo last φ) y) (inYear w t (suc j) ∷ []) ≡ 0
+  module _ (w : Flow) (s t : ℕ) (older : s ≤ t) where
+    late-year : (y j : ℕ) → last < t + suc j → sumOf (falling (upTo last φ) y) (inYear w s t (suc j) ∷ []) ≡ 0
     late-year y j h =
-        omega (arith, sumOf-one (falling (upTo last φ) y) (inYear w t (suc j)), falls-late y (inYear w t (suc j)) (rw (flow-year w t (suc j)) h))
+        let q = inYear w s t (suc j) in
+        omega (arith, sumOf-one (falling (upTo last φ) y) q, falls-late y q (rw (flow-year w s t (suc j) older) h))
 
-    flow-more : (n : ℕ) → last ≤ t + n → (m y : ℕ) → fallen (upTo last φ) y (flowPaid w t (n + m)) ≡ fallen (upTo last φ) y (flowPaid w t n)
+    flow-more : (n : ℕ) → last ≤ t + n → (m y : ℕ) → fallen (upTo last φ) y (flowPaid w s t (n + m)) ≡ fallen (upTo last φ) y (flowPaid w s t n)
     flow-more n h zero y = rw (add-zero n)
     flow-more n h (suc m) y =
         let e : n + suc m ≡ suc (n + m) = omega arith in
-        rw e (omega (arith, Sum.forEach-suc (falling (upTo last φ) y) (n + m) (λ k. inYear w t (suc k) ∷ []), late-year y (n + m) (omega arith), flow-more n h m y))
+        rw e (omega (arith, Sum.forEach-suc (falling (upTo last φ) y) (n + m) (λ k. inYear w s t (suc k) ∷ []), late-year y (n + m) (omega arith), flow-more n h m y))
 
     pub flow-cut :
         (old new : List ℕ) (n : ℕ) {count : ℕ} → count ≡ min n (last - t) → t ≤ last
-        → Raised (upTo last φ) old new (flowPaid w t count) → Raised (upTo last φ) old new (flowPaid w t n)
+        → Raised (upTo last φ) old new (flowPaid w s t count) → Raised (upTo last φ) old new (flowPaid w s t n)
     flow-cut old new n {count} e early h y =
         by-test (leb n (last - t))
         (λ l. let m = leb-true n (last - t) l in let same : count ≡ n = omega arith in rw (← same) (h y))
@@ -166,10 +167,10 @@ module _ (last : ℕ) (φ : Payment → ℕ) where
         let same : count + (n - count) ≡ n = omega arith in
         omega (arith, h y, rw same at (flow-more count (omega arith) (n - count) y)))
 
-    pub flow-late : (l : List ℕ) (n : ℕ) → last < t → Raised (upTo last φ) l l (flowPaid w t n)
+    pub flow-late : (l : List ℕ) (n : ℕ) → last < t → Raised (upTo last φ) l l (flowPaid w s t n)
     flow-late l n h y =
         let same : 0 + n ≡ n = omega arith in
-        omega (arith, rw same at (flow-more 0 (omega arith) n y), Sum.forEach-zero (falling (upTo last φ) y) (λ k. inYear w t (suc k) ∷ []))
+        omega (arith, rw same at (flow-more 0 (omega arith) n y), Sum.forEach-zero (falling (upTo last φ) y) (λ k. inYear w s t (suc k) ∷ []))
 
 -- an arc, part by part
 module _ (φ : Payment → ℕ) (old : List ℕ) where
@@ -200,32 +201,32 @@ module _ (φ : Payment → ℕ) (old : List ℕ) where
   overhauls-all a n new h = h
 
   -- the first years of a flow: none, and one more
-  pub flow-none : (w : Flow) (t : ℕ) → Raised φ old old (flowPaid w t 0)
-  flow-none w t = raised-zero φ old (λ j. inYear w t (suc j) ∷ [])
+  pub flow-none : (w : Flow) (s t : ℕ) → Raised φ old old (flowPaid w s t 0)
+  flow-none w s t = raised-zero φ old (λ j. inYear w s t (suc j) ∷ [])
 
   pub flow-next :
-      (w : Flow) (t n : ℕ) (middle new : List ℕ) {at v : ℕ} → Raised φ old middle (flowPaid w t n) → at ≡ t + n + 1 → v ≡ φ (inYear w t (suc n))
-      → RaisedIn middle new at v → Raised φ old new (flowPaid w t (n + 1))
-  flow-next w t n middle new h i e k =
+      (w : Flow) (s t n : ℕ) (middle new : List ℕ) {at v : ℕ} → s ≤ t → Raised φ old middle (flowPaid w s t n) → at ≡ t + n + 1
+      → v ≡ φ (inYear w s t (suc n)) → RaisedIn middle new at v → Raised φ old new (flowPaid w s t (n + 1))
+  flow-next w s t n middle new older h i e k =
       rw (add-one n)
-      (raised-next φ old middle new n (λ j. inYear w t (suc j) ∷ []) h
-      (raised-one φ middle new (inYear w t (suc n)) (omega (arith, flow-year w t (suc n))) e k))
+      (raised-next φ old middle new n (λ j. inYear w s t (suc j) ∷ []) h
+      (raised-one φ middle new (inYear w s t (suc n)) (omega (arith, flow-year w s t (suc n) older)) e k))
 
   -- an arc of no years, and one of a year or more
   pub arc-none : (a : Kept) {n : ℕ} → n ≡ 0 → Raised φ old old (paid a n)
   arc-none a none y = rw (none, Sum.paid-zero (falling φ y) a) (sym (add-zero _))
 
   pub arc-raised :
-      (a : Kept) (n : ℕ) (one two three new : List ℕ) → 0 < n
+      (a : Kept) (n : ℕ) (one two three new : List ℕ) {began since : ℕ} → 0 < n → began ≡ a .from → since ≡ a .since
       → Raised φ old one (investment a ∷ [])
       → Raised φ one two (overhaulsBelow a n)
-      → Raised φ two three (flowPaid (a .terms .maintenance) (a .from) n)
-      → Raised φ three new (flowPaid (a .terms .electricity) (a .from) n)
+      → Raised φ two three (flowPaid (a .terms .maintenance) began (a .from) n)
+      → Raised φ three new (flowPaid (a .terms .electricity) since (a .from) n)
       → Raised φ old new (paid a n)
   unfolding maintenance electricity
-  arc-raised a zero one two three new some h i j k y = absurd (omega arith)
-  arc-raised a (suc n) one two three new some h i j k y =
-      omega (arith, h y, i y, j y, k y, sumOf-one (falling φ y) (investment a), Sum.paid-parts (falling φ y) a n)
+  arc-raised a zero one two three new some m e h i j k y = absurd (omega arith)
+  arc-raised a (suc n) one two three new some m e h i j k y =
+      omega (arith, h y, i y, rw m at (j y), rw e at (k y), sumOf-one (falling φ y) (investment a), Sum.paid-parts (falling φ y) a n)
 
 -- a word that is raised fits in 64 bits
 pub sum-fits : (l : List ℕ) (at v last b : ℕ) → Below last b l → at ≤ last → b + v < 2 ^ 64 → getD l at 0 + v < 2 ^ 64

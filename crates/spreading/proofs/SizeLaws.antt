@@ -1,10 +1,11 @@
 -- Why 64 bits suffice for the words. In order:
 --     flow-most, first-most      how much the parts of an arc add of a figure that is at most `largestPayment` of each payment (`Small`)
 --     room-after, room-opened, room-overhauled, room-maintained      words that leave room still do behind payments, and behind each part of an arc
---     flow-cents-zero, flow-cents-suc, flow-cents-le      a flow's running cents: at the start, one year in service on, and up to year 15
+--     flow-cents-zero, flow-cents-suc, flow-moved, flow-cents-le      a flow's running cents: new, one year in service on, at the start of an
+--         arc, and up to year 15
 --     once-money-le, flow-money-le, cents-small      money of the year up to year 15 is such a figure
 -- Assumes nothing.
-use Prim.Native.Nat.{ℕ, suc, _+_, _*_, _≤_, _<_}
+use Prim.Native.Nat.{ℕ, suc, _+_, _-_, _*_, _≤_, _<_}
 use mathlib.Core.Path.{_≡_, refl, ap, _∙_}
 use mathlib.Core.List.{List, [], _∷_, _++_}
 use native.Mathlib.Nat.{le-trans}
@@ -33,8 +34,9 @@ use Rattle.spreading.specs.declared.Money.{Money}
 use Rattle.spreading.proofs.RaisedLaws.{flow-year, raised-both, below-raised, upTo-in, upTo-out}
 
 module _ (φ : Payment → ℕ) where
-  pub flow-most : (w : Flow) (t n : ℕ) → ((k : ℕ) → k < n → φ (inYear w t (suc k)) ≤ largestPayment) → sumOf φ (flowPaid w t n) ≤ n * largestPayment
-  flow-most w t n h = forEach-le φ largestPayment n _ (λ k l. rw (sumOf-one φ (inYear w t (suc k))) (h k l))
+  pub flow-most :
+      (w : Flow) (s t n : ℕ) → ((k : ℕ) → k < n → φ (inYear w s t (suc k)) ≤ largestPayment) → sumOf φ (flowPaid w s t n) ≤ n * largestPayment
+  flow-most w s t n h = forEach-le φ largestPayment n _ (λ k l. rw (sumOf-one φ (inYear w s t (suc k))) (h k l))
 
   module _ (a : Kept) (ok : KeptFits a) (n : ℕ) (small : Small φ a n) where
     pub first-most : (years j : ℕ) → j ≤ a .terms .overhauls .count → sumOf φ (firstOverhauls a years j) ≤ 8 * largestPayment
@@ -46,8 +48,8 @@ module _ (φ : Payment → ℕ) where
     unfolding overhaulsBelow
     overhauls-most years = first-most years (a .terms .overhauls .count) (omega arith)
 
-    maintained-most : sumOf φ (flowPaid (a .terms .maintenance) (a .from) n) ≤ n * largestPayment
-    maintained-most = flow-most (a .terms .maintenance) (a .from) n (λ k l. unfold maintenance in small .maintained k l)
+    maintained-most : sumOf φ (flowPaid (a .terms .maintenance) (a .from) (a .from) n) ≤ n * largestPayment
+    maintained-most = flow-most (a .terms .maintenance) (a .from) (a .from) n (λ k l. unfold maintenance in small .maintained k l)
 
   -- words that leave room still do behind payments that add no more than that
   pub room-after :
@@ -82,9 +84,9 @@ module _ (φ : Payment → ℕ) (a : Kept) (ok : KeptFits a) (n : ℕ) (few : n 
     room-overhauled same = parts-room 9 two opened (omega arith) same (raised-both φ old one two _ _ h i) opened-most
 
     pub room-maintained :
-        (three : List ℕ) → length three ≡ length old → Raised φ two three (flowPaid (a .terms .maintenance) (a .from) n) → Room three last beforeArc
+        (three : List ℕ) → length three ≡ length old → Raised φ two three (flowPaid (a .terms .maintenance) (a .from) (a .from) n) → Room three last beforeArc
     room-maintained three same j =
-        let m = flowPaid (a .terms .maintenance) (a .from) n in
+        let m = flowPaid (a .terms .maintenance) (a .from) (a .from) n in
         parts-room (9 + n) three (opened ++ m) (omega arith) same (raised-both φ old two three opened m (raised-both φ old one two _ _ h i) j)
         (omega (arith, sumOf-append φ opened m, opened-most, maintained-most φ a ok n small))
 
@@ -93,26 +95,32 @@ once-rates : (amount grow y : ℕ) → grow ≤ 1_200_000 → Rates 1_200_000 (o
 unfolding once
 once-rates amount grow y l = record { positive = omega arith; grown = l; product = omega arith }
 
-flow-rates : (discount : ℕ) (w : Flow) (t k : ℕ) → 0 < discount → FlowFits discount w → Rates discount (inYear w t k)
+flow-rates : (discount : ℕ) (w : Flow) (s t k : ℕ) → 0 < discount → FlowFits discount w → Rates discount (inYear w s t k)
 unfolding inYear
-flow-rates discount w t k positive fits = record { positive = positive; grown = fits .grow .high; product = fits .product }
+flow-rates discount w s t k positive fits = record { positive = positive; grown = fits .grow .high; product = fits .product }
 
-pub flow-cents-zero : (general : ℕ) (w : Flow) (t : ℕ) → cents general (once (w .amount) (w .grow) t) ≡ cents general (inYear w t 0)
+pub flow-cents-zero : (general : ℕ) (w : Flow) (t : ℕ) → cents general (once (w .amount) (w .grow) t) ≡ cents general (inYear w t t 0)
 unfolding cents once inYear repeated
-flow-cents-zero general w t = refl
+flow-cents-zero general w t = let none : t - t + 0 ≡ 0 = omega arith in rw none refl
 
 pub flow-cents-suc :
-    (general : ℕ) (w : Flow) (t n : ℕ) {a m : ℕ}
-    → a ≡ cents general (inYear w t n) → m ≡ nominalInService general (w .grow) (w .age) a → m ≡ cents general (inYear w t (suc n))
+    (general : ℕ) (w : Flow) (s t n : ℕ) {a m : ℕ}
+    → a ≡ cents general (inYear w s t n) → m ≡ nominalInService general (w .grow) (w .age) a → m ≡ cents general (inYear w s t (suc n))
 unfolding cents inYear repeated
-flow-cents-suc general w t n now step = step ∙ ap (nominalInService general (w .grow) (w .age)) now
+flow-cents-suc general w s t n now step =
+    let more : t - s + suc n ≡ suc (t - s + n) = omega arith in rw more (step ∙ ap (nominalInService general (w .grow) (w .age)) now)
+
+-- an arc that starts a year later stands a year on
+pub flow-moved : (w : Flow) (s t : ℕ) → s ≤ t → inYear w s t 1 ≡ inYear w s (t + 1) 0
+unfolding inYear
+flow-moved w s t old = let same : t - s + 1 ≡ t + 1 - s + 0 = omega arith in rw same refl
 
 pub flow-cents-le :
-    (general discount : ℕ) (w : Flow) (t k : ℕ) → general ≤ 1_050_000 → 0 < discount → discount ≤ 1_200_000 → FlowFits discount w
-    → t + k ≤ lastNominal → cents general (inYear w t k) ≤ largestCents
-flow-cents-le general discount w t k inflation positive high fits by =
-    cents-le general discount (inYear w t k) inflation high (flow-rates discount w t k positive fits) (unfold inYear in fits .amount)
-    (omega (arith, flow-year w t k))
+    (general discount : ℕ) (w : Flow) (s t k : ℕ) → general ≤ 1_050_000 → 0 < discount → discount ≤ 1_200_000 → FlowFits discount w
+    → s ≤ t → t + k ≤ lastNominal → cents general (inYear w s t k) ≤ largestCents
+flow-cents-le general discount w s t k inflation positive high fits old by =
+    cents-le general discount (inYear w s t k) inflation high (flow-rates discount w s t k positive fits) (unfold inYear in fits .amount)
+    (omega (arith, flow-year w s t k old))
 
 -- money of the year
 module _ (m : Money) (h : MoneyFits m) where
@@ -131,9 +139,9 @@ module _ (m : Money) (h : MoneyFits m) where
       money-le 1_200_000 (once amount grow y) (omega arith) (once-rates amount grow y (fits .grown)) (unfold once in fits .small)
 
   pub flow-money-le :
-      (discount : ℕ) (w : Flow) (t k : ℕ) → 0 < discount → discount ≤ 1_200_000 → FlowFits discount w → inMoney m (inYear w t k) ≤ largestPayment
-  flow-money-le discount w t k positive low fits =
-      money-le discount (inYear w t k) low (flow-rates discount w t k positive fits) (unfold inYear in fits .amount)
+      (discount : ℕ) (w : Flow) (s t k : ℕ) → 0 < discount → discount ≤ 1_200_000 → FlowFits discount w → inMoney m (inYear w s t k) ≤ largestPayment
+  flow-money-le discount w s t k positive low fits =
+      money-le discount (inYear w s t k) low (flow-rates discount w s t k positive fits) (unfold inYear in fits .amount)
 
   pub cents-small : (a : Kept) → KeptFits a → (n : ℕ) → Small (inMoney m) a n
   unfolding investment overhaul maintenance electricity ageOf
@@ -144,6 +152,6 @@ module _ (m : Money) (h : MoneyFits m) where
       record {
         invested = once-money-le _ _ _ (record { small = t .investment .amount; grown = omega (arith, t .investment .grow .high) });
         overhauled = λ j l. once-money-le _ _ _ (record { small = t .overhauls .amount j l; grown = omega (arith, t .overhauls .grow .high) });
-        maintained = λ k l. flow-money-le (a .discount) (a .terms .maintenance) (a .from) (suc k) (omega arith) high (t .maintenance);
-        powered = λ k l. flow-money-le (a .discount) (a .terms .electricity) (a .from) (suc k) (omega arith) high (t .electricity);
+        maintained = λ k l. flow-money-le (a .discount) (a .terms .maintenance) (a .from) (a .from) (suc k) (omega arith) high (t .maintenance);
+        powered = λ k l. flow-money-le (a .discount) (a .terms .electricity) (a .since) (a .from) (suc k) (omega arith) high (t .electricity);
       }

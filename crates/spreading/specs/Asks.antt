@@ -3,11 +3,10 @@ use Prim.Native.Nat.{ℕ, _+_, _*_, _≤_, _<_}
 use mathlib.Core.List.{List}
 use lib.ListN.{length, getD}
 use Rattle.nominal.specs.Nominal.{lastNominal}
-use Rattle.division.specs.Division.{DivisorReady}
 use Rattle.division.specs.declared.Divisor.{Divisor}
 use Rattle.sheet.specs.declared.Flow.{Flow}
 use Rattle.checking.specs.Fit.{FlowFits}
-use Rattle.costing.specs.Fit.{yearly, KeptFits, Steppable}
+use Rattle.costing.specs.Fit.{yearly, FlowSteps, KeptFits, Steppable}
 use Rattle.costing.specs.declared.Kept.{Kept}
 use Rattle.spreading.specs.declared.Money.{Money}
 
@@ -28,11 +27,10 @@ pub record Room (words : List ℕ) (last b : ℕ) : Type 0 where
   pub low : Below last b words
 
 -- a flow that steps as the discount factor at hand lets it
-pub record FlowAsks (words : List ℕ) (discount : Divisor) (flow : Flow) (from years : ℕ) : Type 0 where
-  pub ready : DivisorReady discount
-  pub discountLow : 1_000_000 ≤ discount .by
-  pub discountHigh : discount .by ≤ 1_200_000
-  pub fits : FlowFits (discount .by) flow
+pub record FlowAsks (words : List ℕ) (discount : Divisor) (flow : Flow) (since from years : ℕ) : Type 0 where
+  pub steps : FlowSteps discount flow
+  pub old : since ≤ from
+  pub early : from ≤ 300
   pub few : years ≤ 300
   pub room : Room words (from + years) beforeArc
 

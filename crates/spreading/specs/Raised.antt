@@ -33,6 +33,6 @@ inMoney m = upTo (m .last) (cents (m .general))
 abbrev pub firstOverhauls : Kept → (n j : ℕ) → List Payment
 firstOverhauls a n j = forEach j (λ i. paidIf (ltb (ageOf a i) n) (overhaul a i))
 
--- what a flow pays in its first n years of service, which began in year t
-abbrev pub flowPaid : Flow → (t n : ℕ) → List Payment
-flowPaid w t n = forEach n (λ k. inYear w t (suc k) ∷ [])
+-- what a flow in service since year s pays in the first n years of an arc from year t
+abbrev pub flowPaid : Flow → (s t n : ℕ) → List Payment
+flowPaid w s t n = forEach n (λ k. inYear w s t (suc k) ∷ [])

@@ -1,14 +1,16 @@
 // Money of the year in cents, by year, up to a last year.
 
+ghost use mathlib.Core.Path.{_≡_};
 ghost use mathlib.Core.List.{[], _∷_};
 ghost use Prim.Native.Nat.{_+_, _^_, _<_, _≤_};
 ghost use lib.Dec.{ltb};
 ghost use lib.ListN.{length, getD};
 ghost use Rattle.steps.specs.Payment.{once};
-ghost use Rattle.costing.specs.Arc.{paidIf, overhaulsBelow, paid};
+ghost use Rattle.costing.specs.Arc.{inYear, paidIf, overhaulsBelow, paid};
 ghost use Rattle.costing.specs.Fit.{KeptFits};
+ghost use Rattle.nominal.specs.Nominal.{cents};
 ghost use Rattle.spreading.specs.Raised.{RaisedIn, Raised, flowPaid, inMoney};
-ghost use Rattle.spreading.specs.Asks.{beforePayment, beforeArc, MoneyAsks, OnceFits, FlowPasses, MoneyArcAsks};
+ghost use Rattle.spreading.specs.Asks.{beforePayment, beforeArc, MoneyFits, MoneyAsks, OnceFits, FlowPasses, MoneyArcAsks};
 use crate::Money;
 use base::order;
 use costing::Kept;
@@ -78,17 +80,29 @@ fn add_overhauls(words: &mut [u64], kept: Kept, money: Money, years: u64)
     }
 }
 
-// Adds what a flow pays in its first years of service, which began in a year. The walk stops at the last year: later cents have no word, and in
-// the end they would not fit in 64 bits.
-fn add_flow(words: &mut [u64], money: Money, flow: Flow, from: u64, years: u64)
-    requires { ⌜ MoneyAsks (now words) money beforeArc × FlowPasses flow ⌝ }
-    ensures { λ _. ⌜ Raised (inMoney money) (now (words .entry)) (now (words .exit)) (flowPaid flow from years) ⌝ }
+// Where the running amount of a flow stands at the start of an arc from a year, if the flow is in service since an earlier one.
+fn running(money: Money, flow: Flow, since: u64, from: u64) -> Cents
+    requires { ⌜ MoneyFits money × FlowPasses flow × (since ≤ from) × (from ≤ money .last) ⌝ }
+    ensures { λ r. ⌜ r .0 ≡ cents (money .general) (inYear flow since from 0) ⌝ }
+{
+    let mut value = paid_once(flow.amount, flow.grow, money.general, since);
+    for k in since..from {
+        value = value.in_service(money.general, flow.grow, flow.age);
+    }
+    value
+}
+
+// Adds what a flow in service since a year pays in the years of an arc. The walk stops at the last year: later cents have no word, and in the
+// end they would not fit in 64 bits.
+fn add_flow(words: &mut [u64], money: Money, flow: Flow, since: u64, from: u64, years: u64)
+    requires { ⌜ MoneyAsks (now words) money beforeArc × FlowPasses flow × (since ≤ from) ⌝ }
+    ensures { λ _. ⌜ Raised (inMoney money) (now (words .entry)) (now (words .exit)) (flowPaid flow since from years) ⌝ }
 {
     if money.last < from {
         return;
     }
     let count = order::smaller(years, money.last - from);
-    let mut value = paid_once(flow.amount, flow.grow, money.general, from);
+    let mut value = running(money, flow, since, from);
     for n in 0..count {
         value = value.in_service(money.general, flow.grow, flow.age);
         add(words, from + n + 1, value);
@@ -107,6 +121,13 @@ pub fn add_arc(words: &mut [u64], kept: Kept, money: Money, years: u64)
     let investment = terms.investment;
     add_once(words, money, investment.amount, investment.grow, kept.from);
     add_overhauls(words, kept, money, years);
-    add_flow(words, money, terms.maintenance, kept.from, years);
-    add_flow(words, money, terms.electricity, kept.from, years);
+    add_flow(words, money, terms.maintenance, kept.from, kept.from, years);
+    add_flow(
+        words,
+        money,
+        terms.electricity,
+        kept.since,
+        kept.from,
+        years,
+    );
 }

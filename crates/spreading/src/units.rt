@@ -11,6 +11,7 @@ ghost use Rattle.costing.specs.Fit.{Steppable};
 ghost use Rattle.spreading.specs.Raised.{RaisedIn, Raised, flowPaid};
 ghost use Rattle.spreading.specs.Asks.{beforePayment, beforeArc, Room, FlowAsks, ArcAsks};
 use costing::Kept;
+use costing::arc::running;
 use division::Divisor;
 use sheet::Flow;
 use steps::Units;
@@ -69,12 +70,12 @@ fn add_overhauls(words: &mut [u64], kept: Kept, discount: Divisor, years: u64)
     }
 }
 
-// Adds what a flow pays in each of its first years of service, which began in a year.
-fn add_flow(words: &mut [u64], discount: Divisor, flow: Flow, from: u64, years: u64)
-    requires { ⌜ FlowAsks (now words) discount flow from years ⌝ }
-    ensures { λ _. ⌜ Raised (rounded (discount .by)) (now (words .entry)) (now (words .exit)) (flowPaid flow from years) ⌝ }
+// Adds what a flow in service since a year pays in the years of an arc.
+fn add_flow(words: &mut [u64], discount: Divisor, flow: Flow, since: u64, from: u64, years: u64)
+    requires { ⌜ FlowAsks (now words) discount flow since from years ⌝ }
+    ensures { λ _. ⌜ Raised (rounded (discount .by)) (now (words .entry)) (now (words .exit)) (flowPaid flow since from years) ⌝ }
 {
-    let mut value = paid_once(flow.amount, flow.grow, discount, from);
+    let mut value = running(flow, discount, since, from);
     for n in 0..years {
         value = value.in_service(flow.grow, flow.age, discount);
         add(words, from + n + 1, value);
@@ -94,6 +95,20 @@ pub fn add_arc(words: &mut [u64], kept: Kept, discount: Divisor, years: u64)
     let value = paid_once(investment.amount, investment.grow, discount, kept.from);
     add(words, kept.from, value);
     add_overhauls(words, kept, discount, years);
-    add_flow(words, discount, terms.maintenance, kept.from, years);
-    add_flow(words, discount, terms.electricity, kept.from, years);
+    add_flow(
+        words,
+        discount,
+        terms.maintenance,
+        kept.from,
+        kept.from,
+        years,
+    );
+    add_flow(
+        words,
+        discount,
+        terms.electricity,
+        kept.since,
+        kept.from,
+        years,
+    );
 }

@@ -70,6 +70,19 @@ plains-fit grow discount k a h =
       room = le-trans (plains-le grow discount (omega arith) (h .grown) k a) (h .room);
     }
 
+-- and the room for so many steps in service lasts through them
+pub services-fit :
+    (grow age discount years k a : ℕ) → ServiceFits grow age discount (a + years) → k ≤ years
+    → ServiceFits grow age discount (repeated k (inService grow age discount) a)
+services-fit grow age discount years k a h few =
+    let p = h .plainly in
+    let up = services-le grow age discount (omega (arith, p .low)) (p .grown) (h .product) k a in
+    record {
+      plainly = record { low = p .low; high = p .high; grown = p .grown; room = omega (arith, p .room) };
+      aged = h .aged;
+      product = h .product;
+    }
+
 -- an amount of a sheet leaves room
 pub amount-fits :
     (grow discount amount : ℕ) → 1_000_000 ≤ discount → discount ≤ 1_200_000 → grow ≤ discount → amount ≤ 1_000_000_000

@@ -5,9 +5,9 @@ use Rattle.division.specs.Division.{DivisorReady}
 use Rattle.division.specs.declared.Divisor.{Divisor}
 use Rattle.steps.specs.Payment.{Payment, year}
 
--- the most that one payment can be: 10^9 currency units, and a unit for each of 300 years in service
+-- the most that one payment can be: 10^9 currency units, and a unit for each of 600 steps in service, which is more than an arc takes
 abbrev pub largestPayment : ℕ
-largestPayment = 10_000_000_000_300
+largestPayment = 10_000_000_000_600
 
 -- a plain step: the discount is at least 10^6 and the growth at most the discount; the amount leaves room
 pub record PlainFits (grow discount a : ℕ) : Type 0 where

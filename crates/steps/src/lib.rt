@@ -3,7 +3,7 @@
 // require.
 
 ghost use mathlib.Core.Path.{_≡_};
-ghost use Prim.Native.Nat.{_<_, _≤_, _*_};
+ghost use Prim.Native.Nat.{_<_, _≤_, _+_, _*_};
 ghost use Rattle.division.specs.Division.{DivisorReady};
 ghost use Rattle.steps.specs.Step.{divided, plain, inService, repeated};
 ghost use Rattle.steps.specs.Payment.{rounded, once};
@@ -55,6 +55,18 @@ impl Units {
         let mut now = self;
         for k in 0..years {
             now = now.plain(grow, discount);
+        }
+        now
+    }
+
+    // That many years forward in service.
+    pub fn service_years(self, grow: u64, age: u64, discount: Divisor, years: u64) -> Units
+        requires { ⌜ ServiceFits grow age (discount .by) (self .0 + years) × DivisorReady discount ⌝ }
+        ensures { λ r. ⌜ r .0 ≡ repeated years (inService grow age (discount .by)) (self .0) ⌝ }
+    {
+        let mut now = self;
+        for k in 0..years {
+            now = now.in_service(grow, age, discount);
         }
         now
     }

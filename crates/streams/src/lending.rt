@@ -15,7 +15,7 @@ pub fn lend(streams: &mut [u64], sheet: Sheet, discount: Divisor, option: u64) -
     ensures { λ ages. ⌜ Lent sheet option (now (streams .exit)) ages ⌝ }
 {
     let terms = sheet.options[option as usize];
-    crate::fill(streams, terms, discount, sheet.horizon);
+    crate::fill(streams, terms, option, discount, sheet.horizon);
     let overhauls = terms.overhauls;
     overhauls.ages
 }

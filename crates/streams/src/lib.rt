@@ -6,10 +6,11 @@ ghost use Prim.Native.Nat.{_+_, _<_, _≤_};
 ghost use lib.ListN.{length};
 ghost use Rattle.checking.specs.Fit.{TermsFit};
 ghost use Rattle.division.specs.Division.{DivisorReady};
-ghost use Rattle.costing.specs.Arc.{worth};
+ghost use Rattle.steps.specs.Payment.{rounded};
+ghost use Rattle.costing.specs.Arc.{sinceOf, electricity, worth};
 ghost use Rattle.costing.specs.Fit.{KeptFits};
 ghost use Rattle.costing.specs.Walk.{overhaulsAt, walkAt};
-ghost use Rattle.streams.specs.Streams.{streamPlaces, Streams, Falls};
+ghost use Rattle.streams.specs.Streams.{Stream, startIn, part, streamPlaces, Streams, PowerAt, Falls};
 use costing::Kept;
 use costing::Walk;
 use division::Divisor;
@@ -30,31 +31,40 @@ pub struct Fallen {
 }
 
 // Writes all streams of an option, for the years 0 to last.
-pub fn fill(streams: &mut [u64], terms: Terms, discount: Divisor, last: u64)
+pub fn fill(streams: &mut [u64], terms: Terms, option: u64, discount: Divisor, last: u64)
     requires { ⌜ DivisorReady discount × (1_000_000 ≤ discount .by) × (discount .by ≤ 1_200_000) ⌝ }
     requires { ⌜ TermsFit (discount .by) terms ⌝ }
     requires { ⌜ (last ≤ 300) × (streamPlaces ≤ length (now streams)) ⌝ }
-    ensures { λ _. ⌜ Streams (discount .by) terms last (now (streams .exit)) ⌝ }
+    ensures paid { λ _. ⌜ Streams (discount .by) terms last (now (streams .exit)) ⌝ }
+    ensures power { λ _. ⌜ Stream (part 2) (startIn (discount .by) (terms .electricity) (sinceOf option)) last (now (streams .exit)) ⌝ }
 {
     let i = terms.investment;
     let m = terms.maintenance;
-    let e = terms.electricity;
     filling::stream(streams, 0, i.amount, i.grow, discount, last);
     filling::stream(streams, YEARS, m.amount, m.grow, discount, last);
-    filling::stream(streams, 2 * YEARS, e.amount, e.grow, discount, last);
+    filling::electricity(streams, option, terms.electricity, discount, last);
     filling::overhauls(streams, terms.overhauls, discount, last);
 }
 
-// The arc before its first year.
-pub fn open(streams: &[u64], kept: Kept, last: u64) -> Walk
+// The running amount of electricity at the start of an arc.
+pub fn power(streams: &[u64], kept: Kept) -> Units
+    requires { ⌜ PowerAt kept (now streams) × (kept .from ≤ 300) × (streamPlaces ≤ length (now streams)) ⌝ }
+    ensures { λ r. ⌜ r .0 ≡ rounded (kept .discount) (electricity kept 0) ⌝ }
+{
+    Units(streams[2 * YEARS + kept.from as usize])
+}
+
+// The arc before its first year, with the running amount of its electricity.
+pub fn open(streams: &[u64], kept: Kept, power: Units, last: u64) -> Walk
     requires { ⌜ Streams (kept .discount) (kept .terms) last (now streams) × (kept .from ≤ last) × (last ≤ 300) ⌝ }
+    requires { ⌜ power .0 ≡ rounded (kept .discount) (electricity kept 0) ⌝ }
     ensures { λ r. ⌜ r ≡ walkAt kept 0 ⌝ }
 {
     let from = kept.from as usize;
     Walk {
         cost: Units(streams[from]),
         maintenance: Units(streams[YEARS + from]),
-        electricity: Units(streams[2 * YEARS + from]),
+        electricity: power,
         years: 0,
     }
 }

@@ -18,26 +18,20 @@ use Rattle.sheet.proofs.ParsedLaws.{horizon-read}
 use Rattle.checking.specs.Fit.{Fit, SheetFits}
 use Rattle.costing.specs.Arc.{keptOf, costTo}
 use Rattle.costing.specs.Offered.{placed, offered}
-use Rattle.costing.specs.Fit.{Walkable}
 use Rattle.costing.specs.declared.Kept.{Kept}
 use Rattle.costing.proofs.SheetArcLaws.{kept-read, keptOf-fits}
 use Rattle.costing.proofs.OfferedLaws.{placed-iff, offered-iff}
 use Rattle.choice.specs.Running.{Entry, noEntry, entries, overEnds}
 use Rattle.choice.proofs.RunningLaws.{over-start}
 use Rattle.chain.proofs.FeasibleLaws.{replace-forward}
-use Rattle.streams.specs.Streams.{Streams}
 use Rattle.weighing.specs.Best.{inShort}
-use Rattle.weighing.specs.Ends.{wordOf, WordsFit, WordsBehind}
+use Rattle.weighing.specs.Ends.{wordOf, WordsFit, WordsBehind, Walks}
 use Rattle.weighing.specs.declared.Best.{Best}
-use Rattle.weighing.proofs.SheetEndLaws.{ends-over}
+use Rattle.weighing.proofs.SheetEndLaws.{lent-walks, ends-over}
 use Rattle.tails.specs.Tail.{bestEnd, tailFrom}
 use Rattle.tails.specs.Words.{wordsNeeded}
 use Rattle.tails.specs.Writing.{chosenBy, withYear, WordsHeld, YearWritten, TwoWritten, Fillable}
 use Rattle.tails.proofs.TailLaws.{tail-step, tail-le}
-
--- an option that is kept can be walked, and its streams are those at hand
-abbrev pub Walks : Sheet → (discount : Divisor) (streams ages : List ℕ) → Kept → Type 0
-Walks s discount streams ages a = Walkable a discount ages × Streams (a .discount) (a .terms) (s .horizon) streams
 
 -- a replacement within the horizon is well placed
 replace-placed : (T y e : ℕ) → y < e → e ≤ T → placed T replace y e ≡ true
@@ -109,14 +103,10 @@ module _ (s : Sheet) (words : List ℕ) where
 -- the arcs of replacements from a year can be walked, by what is handed to the writing
 pub replace-walks :
     (s : Sheet) (discount : Divisor) (streams ages words firsts : List ℕ) → Fillable s discount streams ages words firsts
-    → (y : ℕ) → y ≤ s .horizon → Walks s discount streams ages (keptOf s replace y)
-replace-walks s discount streams ages words firsts given y early = (
-  record {
-    steps = record { fits = keptOf-fits s (given .sheet .fit) replace y (omega arith) (omega (arith, given .sheet .fit .horizonHigh)); divides = given .divides };
-    ages = given .lent .1;
-  },
-  given .lent .0,
-)
+    → (y : ℕ) → y ≤ s .horizon → Walks (keptOf s replace y) discount (s .horizon) streams ages
+replace-walks s discount streams ages words firsts given y early =
+    lent-walks s discount replace y streams ages (keptOf-fits s (given .sheet .fit) replace y (omega arith) (omega (arith, given .sheet .fit .horizonHigh)))
+    (given .divides) early (given .lent)
 
 -- one year and the year before it are two
 pub two-written :

@@ -1,6 +1,8 @@
-// Runs `cost` on arcs and prints an answer a line; the file `stdout` beside `src` has the lines expected. Cases 6 to 8 of document 01; the
-// paper's case study, whose arcs cost less than a euro from the present values of its Table 5; and each way into refusal 13, at its limit.
+// Runs `cost` on arcs and prints an answer a line; the file `stdout` beside `src` has the lines expected. Cases 6 to 8 of document 01;
+// renovations whose motors go on ageing; the paper's case study, whose arcs cost less than a euro from the present values of its Table 5; and each
+// way into refusal 13, at its limit.
 
+mod motors;
 mod paper;
 mod refusals;
 mod show;
@@ -8,6 +10,7 @@ mod small;
 
 fn main() {
     small::cases();
+    motors::renovations();
     paper::replacements();
     refusals::all();
 }

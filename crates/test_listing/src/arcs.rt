@@ -1,18 +1,21 @@
-// Document 01, 'What an arc costs': an option kept from year `start` for `years` years. Every payment is stepped from year 0 by itself.
+// Document 01, 'What an arc costs', with document 02's request 4: an option kept from year `start` for `years` years, whose motors are in service
+// since year `since`. Every payment is stepped from year 0 by itself.
 
 use crate::figures::Overhauls;
 use crate::figures::Terms;
 use crate::figures::Yearly;
+use crate::numbers::minus;
 use crate::numbers::plus;
 use crate::steps::in_service;
 use crate::steps::plain;
 use crate::steps::units;
 
-fn yearly(y: Yearly, rate: u64, start: u64, years: u64) -> u64 {
+fn yearly(y: Yearly, rate: u64, since: u64, start: u64, years: u64) -> u64 {
     let mut sum = 0;
     for k in 0..years {
-        let then = plain(units(y.amount), y.growth, rate, start);
-        sum = plus(sum, in_service(then, y, rate, plus(k, 1)));
+        let then = plain(units(y.amount), y.growth, rate, since);
+        let served = minus(plus(start, plus(k, 1)), since);
+        sum = plus(sum, in_service(then, y, rate, served));
     }
     sum
 }
@@ -33,13 +36,13 @@ fn overhauls(o: Overhauls, rate: u64, start: u64, years: u64) -> u64 {
     sum
 }
 
-pub fn arc(o: Terms, rate: u64, start: u64, years: u64) -> u64 {
+pub fn arc(o: Terms, rate: u64, since: u64, start: u64, years: u64) -> u64 {
     if years == 0 {
         return 0;
     }
     let invested = plain(units(o.investment), o.growth, rate, start);
     let overhauled = overhauls(o.overhauls, rate, start, years);
-    let maintained = yearly(o.maintenance, rate, start, years);
-    let powered = yearly(o.electricity, rate, start, years);
+    let maintained = yearly(o.maintenance, rate, start, start, years);
+    let powered = yearly(o.electricity, rate, since, start, years);
     plus(plus(invested, overhauled), plus(maintained, powered))
 }

@@ -72,7 +72,7 @@ pub fn replaced(f: Figures, chain: Chain) -> Price {
             if !lasts(f.replace, years) {
                 return INFEASIBLE;
             }
-            total = plus(total, arc(f.replace, f.rate, start, years));
+            total = plus(total, arc(f.replace, f.rate, start, start, years));
             start = ends[k];
         }
     }
@@ -95,8 +95,8 @@ pub fn priced(f: Figures, chain: Chain) -> Price {
     if !rest.feasible {
         return INFEASIBLE;
     }
-    let maintain = arc(f.maintain, f.rate, 0, chain.i);
-    let renovate = arc(f.renovate, f.rate, chain.i, renovated);
+    let maintain = arc(f.maintain, f.rate, 0, 0, chain.i);
+    let renovate = arc(f.renovate, f.rate, 0, chain.i, renovated);
     Price {
         feasible: true,
         total: plus(plus(maintain, renovate), rest.total),

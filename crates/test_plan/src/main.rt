@@ -16,6 +16,7 @@ fn main() {
     paper::none();
     postponed::all_free();
     postponed::maintained();
+    postponed::motors();
     document::lengths();
     faulty::sheets();
     tails::cases();

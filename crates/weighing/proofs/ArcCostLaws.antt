@@ -18,7 +18,7 @@ use Rattle.weighing.specs.Ends.{Costs, CostsTo}
 
 module _ (a : Kept) where
   pub kept-from-fits : KeptFits a → (y : ℕ) → y ≤ 300 → KeptFits (keptFrom a y)
-  kept-from-fits h y early = record { low = h .low; high = h .high; terms = h .terms; from = early }
+  kept-from-fits h y early = record { low = h .low; high = h .high; terms = h .terms; from = early; since = omega arith }
 
   -- which overhaul falls does not depend on the start
   pub falls-from : (y n next : ℕ) → Falls a n next → Falls (keptFrom a y) n next
@@ -37,8 +37,7 @@ module _ (a : Kept) where
       (written-more (λ k. k) (λ k. worth a (paid a (k + 1))) (λ k. k < n) (λ k. k < n + 1) costs n room
       (value ∙ walk-paid a w (n + 1) stands (omega arith)) (λ k d. d) (λ k l d. omega arith) so-far k l)
 
-  -- of arcs of the same option from another year, not an earlier one, up to the longest life or the horizon
+  -- of as many arcs as there are from a year, not a later one, up to the longest life or the horizon
   pub costs-to :
-      (y T years : ℕ) (costs : List ℕ) → years ≡ min (a .terms .longest) (T - a .from) → a .from ≤ y → Costs (keptFrom a y) years costs
-      → CostsTo (keptFrom a y) T costs
+      (y T years : ℕ) (costs : List ℕ) → years ≡ min (a .terms .longest) (T - y) → y ≤ a .from → Costs a years costs → CostsTo a T costs
   costs-to y T years costs top later known n lives inside = known n (omega arith)

@@ -3,7 +3,7 @@
 --     EndLaws: the ends of an option that is kept, on its terms
 --     ArcCostLaws: what the arcs of an option cost, by their lengths
 --     NextLaws: ends that are not better are passed over
---     SheetEndLaws: the choice of an end on the terms of an option is the one that the rules give
+--     SheetEndLaws: what is lent with a sheet; the choice of an end on the terms of an option is the one that the rules give
 pub mod BestLaws
 pub mod EndLaws
 pub mod ArcCostLaws

@@ -1,23 +1,36 @@
--- The choice of an end on the terms of an option is the one that the rules give, for any option and entries behind the ends (`ends-over`).
--- Assumes nothing.
+-- What is lent with a sheet is what walking the arcs of an option asks (`lent-walks`), and the choice of an end on the terms of an option is the
+-- one that the rules give, for any option and entries behind the ends (`ends-over`). Assumes nothing.
 use Prim.Native.Nat.{ℕ, _+_, _-_, _≤_, _<_}
 use mathlib.Core.Path.{_≡_, refl, ap, sym, _∙_}
+use mathlib.Core.List.{List}
 use mathlib.Core.Bool.{true, _&&_, or-false}
 use native.Mathlib.Omega.{arith}
 use lib.Dec.{leb}
 use borrow.Author.Tests.{le-leb, ne-eqb}
 use Rattle.sheet.specs.Sheet.{PlanningSheet}
 use Rattle.sheet.specs.Parsed.{termsOf}
-use Rattle.costing.specs.Arc.{arcOf, paid, worth, costTo}
+use Rattle.sheet.specs.declared.Sheet.{Sheet}
+use Rattle.division.specs.declared.Divisor.{Divisor}
+use Rattle.steps.specs.Fit.{Divides}
+use Rattle.costing.specs.Arc.{keptOf, arcOf, paid, worth, costTo}
 use Rattle.costing.specs.Offered.{placed, lengthOffered, offered}
+use Rattle.costing.specs.Fit.{KeptFits}
 use Rattle.costing.specs.declared.Kept.{Kept}
 use Rattle.costing.proofs.SheetArcLaws.{cost-paid}
 use Rattle.costing.proofs.OfferedLaws.{offered-in}
 use Rattle.choice.specs.Running.{Entry, entries, overEnds}
 use Rattle.choice.proofs.RunningLaws.{over-same}
+use Rattle.streams.specs.Streams.{Lent}
 use Rattle.weighing.specs.Best.{inShort, numbers}
-use Rattle.weighing.specs.Ends.{mayEnd, keptCost}
+use Rattle.weighing.specs.Ends.{mayEnd, keptCost, Walks}
 use Rattle.weighing.proofs.BestLaws.{over-inShort}
+
+-- what is lent with a sheet for an option is what walking its arcs asks
+pub lent-walks :
+    (s : Sheet) (d : Divisor) (option y : ℕ) (streams ages : List ℕ) → KeptFits (keptOf s option y) → Divides d (s .discount) → y ≤ s .horizon
+    → Lent s option streams ages → Walks (keptOf s option y) d (s .horizon) streams ages
+lent-walks s d option y streams ages fits divides early lent =
+    record { steps = record { fits = fits; divides = divides }; ages = lent .1; paid = lent .0; power = lent .2 y early }
 
 -- a length of a year or more lies between the two lives
 length-some :

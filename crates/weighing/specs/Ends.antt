@@ -6,10 +6,12 @@ use mathlib.Core.List.{List}
 use mathlib.Core.Bool.{Bool, _&&_}
 use lib.Dec.{leb}
 use lib.ListN.{length, getD}
+use Rattle.division.specs.declared.Divisor.{Divisor}
 use Rattle.costing.specs.Arc.{paid, worth}
-use Rattle.costing.specs.Fit.{yearly, KeptFits}
+use Rattle.costing.specs.Fit.{yearly, KeptFits, Steppable}
 use Rattle.costing.specs.declared.Kept.{Kept}
 use Rattle.choice.specs.Running.{noTotal, overEnds}
+use Rattle.streams.specs.Streams.{Streams, PowerAt}
 use Rattle.weighing.specs.Best.{numbers}
 use Rattle.weighing.specs.declared.Best.{Best}
 
@@ -19,6 +21,13 @@ mayEnd a e = leb (a .terms .shortest) (e - a .from) && leb (e - a .from) (a .ter
 
 abbrev pub keptCost : Kept → ℕ → ℕ
 keptCost a e = worth a (paid a (e - a .from))
+
+-- what is asked of an option that is kept and of what is lent with it, so that a loop can walk its arcs up to a last year
+pub record Walks (a : Kept) (d : Divisor) (last : ℕ) (streams lent : List ℕ) : Type 0 where
+  pub steps : Steppable a d
+  pub ages : lent ≡ a .terms .overhauls .ages
+  pub paid : Streams (a .discount) (a .terms) last streams
+  pub power : PowerAt a streams
 
 -- the choice so far after the ends of an option that is kept, in the first n years after its start
 abbrev pub bestAfter : Kept → (words : ℕ → ℕ) → Best → (n : ℕ) → Best

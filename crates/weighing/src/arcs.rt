@@ -3,9 +3,8 @@
 ghost use Prim.Native.Nat.{_+_, _≤_};
 ghost use lib.ListN.{length};
 ghost use Rattle.costing.specs.Arc.{keptFrom};
-ghost use Rattle.costing.specs.Fit.{Walkable};
-ghost use Rattle.streams.specs.Streams.{Streams};
-ghost use Rattle.weighing.specs.Ends.{Costs};
+ghost use Rattle.streams.specs.Streams.{PowerAt};
+ghost use Rattle.weighing.specs.Ends.{Walks, Costs};
 use costing::Kept;
 use division::Divisor;
 
@@ -22,16 +21,16 @@ pub fn two_starts(
     last: u64,
     years: u64,
 )
-    requires { ⌜ Walkable kept discount (now ages) ⌝ }
-    requires { ⌜ Streams (kept .discount) (kept .terms) last (now streams) × (last ≤ 300) × (years ≤ 120) ⌝ }
+    requires { ⌜ Walks kept discount last (now streams) (now ages) × PowerAt (keptFrom kept start) (now streams) ⌝ }
+    requires { ⌜ (last ≤ 300) × (years ≤ 120) ⌝ }
     requires { ⌜ (kept .from ≤ start) × (start ≤ last) × (start + years ≤ last + 1) ⌝ }
     requires { ⌜ (120 ≤ length (now earlier)) × (120 ≤ length (now later)) ⌝ }
     ensures earlier { λ _. ⌜ Costs kept years (now (earlier .exit)) ⌝ }
     ensures later { λ _. ⌜ Costs (keptFrom kept start) years (now (later .exit)) ⌝ }
 {
     let other = kept.starting(start);
-    let mut walk = streams::open(streams, kept, last);
-    let mut beside = streams::open(streams, other, last);
+    let mut walk = streams::open(streams, kept, streams::power(streams, kept), last);
+    let mut beside = streams::open(streams, other, streams::power(streams, other), last);
     let mut next: usize = 0;
     let mut n: u64 = 0;
     while n < years {

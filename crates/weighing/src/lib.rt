@@ -4,11 +4,9 @@
 ghost use mathlib.Core.Path.{_≡_};
 ghost use Prim.Native.Nat.{_+_, _-_, _^_, _<_, _≤_};
 ghost use mathlib.Core.Bool.{cond};
-ghost use Rattle.costing.specs.Fit.{Walkable};
 ghost use Rattle.choice.specs.Running.{noTotal, weigh};
-ghost use Rattle.streams.specs.Streams.{Streams};
 ghost use Rattle.weighing.specs.Best.{numbers};
-ghost use Rattle.weighing.specs.Ends.{bestTo, wordOf, WordsBehind, CostsKnown, NextEnd};
+ghost use Rattle.weighing.specs.Ends.{Walks, bestTo, wordOf, WordsBehind, CostsKnown, NextEnd};
 use base::order;
 use costing::Kept;
 use division::Divisor;
@@ -63,8 +61,7 @@ pub fn best_end(
     horizon: u64,
     best: Best,
 ) -> Best
-    requires { ⌜ Walkable kept discount (now ages) × Streams (kept .discount) (kept .terms) horizon (now streams) ⌝ }
-    requires { ⌜ WordsBehind kept horizon (now words) ⌝ }
+    requires { ⌜ Walks kept discount horizon (now streams) (now ages) × WordsBehind kept horizon (now words) ⌝ }
     ensures { λ r. ⌜ r ≡ bestTo kept horizon (wordOf (now (words .entry))) best ⌝ }
 {
     let from = kept.from;
@@ -72,7 +69,7 @@ pub fn best_end(
     let shortest = terms.shortest;
     let top = order::smaller(terms.longest, horizon - from);
     let mut chosen = best;
-    let mut walk = streams::open(streams, kept, horizon);
+    let mut walk = streams::open(streams, kept, streams::power(streams, kept), horizon);
     let mut next: usize = 0;
     let mut n: u64 = 0;
     while n < top {

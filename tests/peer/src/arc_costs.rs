@@ -3,8 +3,12 @@
 //! year to year, in u64.
 
 use crate::sheet::{Flow, Record, Sheet};
+use std::iter;
 
-/// The amounts of an option's payments after 0 plain steps, 1, and so on up to the horizon.
+const RENOVATE: usize = 1;
+
+/// The amounts of an option's payments in the year in which it starts, 0, 1, and so on up to the
+/// horizon; those of overhauls in the year of the overhaul.
 pub struct ArcCosts<'a> {
     record: &'a Record,
     horizon: usize,
@@ -18,7 +22,11 @@ pub struct ArcCosts<'a> {
 
 impl ArcCosts<'_> {
     pub fn of(sheet: &Sheet, option: usize) -> ArcCosts<'_> {
-        let record = &sheet.records[option];
+        ArcCosts::with_record(sheet, option, &sheet.records[option])
+    }
+
+    /// Those that an option would have with another record.
+    pub fn with_record<'a>(sheet: &Sheet, option: usize, record: &'a Record) -> ArcCosts<'a> {
         let horizon = sheet.horizon as usize;
         let discount = factor(sheet.rate);
         let moved = |amount, inflation| plain_steps(amount, inflation, discount, horizon);
@@ -29,7 +37,7 @@ impl ArcCosts<'_> {
             discount,
             investment: moved(record.investment, record.investment_inflation),
             maintenance: moved(record.maintenance.amount, record.maintenance.inflation),
-            electricity: moved(record.electricity.amount, record.electricity.inflation),
+            electricity: electricity_at_start(option, &record.electricity, discount, horizon),
             overhauls: used
                 .iter()
                 .map(|overhaul| {
@@ -68,13 +76,32 @@ impl ArcCosts<'_> {
     }
 }
 
+/// Renovating renews the building, while the motors go on ageing: they have been in service since
+/// year 0. Those of other options are new when it starts.
+fn electricity_at_start(option: usize, flow: &Flow, discount: u64, steps: usize) -> Vec<u64> {
+    match option {
+        RENOVATE => service_steps(flow, discount, steps),
+        _ => plain_steps(flow.amount, flow.inflation, discount, steps),
+    }
+}
+
 fn plain_steps(amount: i64, inflation: i64, discount: u64, steps: usize) -> Vec<u64> {
     let growth = factor(inflation);
-    let first = amount as u64 * 10_000;
     let next = |&running: &u64| Some(plain(running, growth, discount));
-    std::iter::successors(Some(first), next)
+    iter::successors(Some(units(amount)), next)
         .take(steps + 1)
         .collect()
+}
+
+fn service_steps(flow: &Flow, discount: u64, steps: usize) -> Vec<u64> {
+    let first = units(flow.amount);
+    let mut running = Running::new(first, flow, discount);
+    let later = iter::repeat_with(|| running.next_year());
+    iter::once(first).chain(later).take(steps + 1).collect()
+}
+
+fn units(amount: i64) -> u64 {
+    amount as u64 * 10_000
 }
 
 /// A yearly payment in service: its amount of the year it has reached, and its factors.
@@ -125,7 +152,7 @@ mod tests {
     use crate::check::checked;
     use crate::cost::{arc_cost, fault, Arc};
     use crate::random::Random;
-    use crate::sheets::{corner_sheet, long_sheet, small_sheet};
+    use crate::sheets::{corner_motors_sheet, corner_sheet, long_sheet, small_sheet};
 
     #[test]
     fn a_rest_counts_as_a_unit_up_to_the_largest_dividends() {
@@ -169,10 +196,11 @@ mod tests {
     #[test]
     fn as_defined_up_to_year_300() {
         let mut random = Random(18);
-        for make in [corner_sheet, long_sheet] {
+        for make in [corner_sheet, long_sheet, corner_motors_sheet] {
             let sheet = checked(&make(&mut random)).expect("a sheet");
             assert_as_defined(&sheet, 0, 0);
             for start in [0, 1, 59, sheet.horizon as usize - 1] {
+                assert_as_defined(&sheet, 1, start);
                 assert_as_defined(&sheet, 2, start);
             }
         }

@@ -5,8 +5,9 @@
 use crate::answer::Answer;
 use crate::check::checked;
 use crate::cost::{factor, payments, up, Payment, MILLION};
-use crate::plan::read;
+use crate::plan::{read, Chain};
 use crate::price;
+use crate::sheet::Sheet;
 
 const CENTS: u128 = 100;
 /// The last year that has a word of cents.
@@ -46,7 +47,8 @@ pub fn needed(horizon: i64) -> [usize; 2] {
 
 /// A plan that pricing accepts, and what its chain pays.
 pub struct Priced {
-    horizon: i64,
+    pub sheet: Sheet,
+    pub chain: Chain,
     total: u64,
     payments: Vec<Payment>,
     units: Vec<u64>,
@@ -57,20 +59,25 @@ impl Priced {
         let total = price::price(bytes, plan)?;
         let sheet = checked(bytes).expect("a priced sheet");
         let chain = read(plan).expect("a priced plan");
-        let kept = chain.activities().into_iter().filter(|arc| arc.1 < arc.2);
+        let kept = chain.activities().into_iter();
+        let kept = kept.filter(|(_, start, end)| start < end);
         let payments: Vec<Payment> = kept
-            .flat_map(|(option, start, end)| payments(&sheet.records[option], start, end - start))
+            .flat_map(|(option, start, end)| {
+                payments(option as u64, &sheet.records[option], start, end - start)
+            })
             .collect();
+        let units = by_year(&payments, sheet.horizon, |paid| paid.value(sheet.rate));
         Ok(Priced {
-            horizon: sheet.horizon,
+            sheet,
+            chain,
             total,
-            units: by_year(&payments, sheet.horizon, |paid| paid.value(sheet.rate)),
             payments,
+            units,
         })
     }
 
     fn cents(&self, general: i64) -> Vec<u64> {
-        let last = self.horizon.min(LAST_OF_CENTS);
+        let last = self.sheet.horizon.min(LAST_OF_CENTS);
         by_year(&self.payments, last, |paid| paid.cents(general))
     }
 }
@@ -79,7 +86,7 @@ impl Priced {
 pub fn budget(plan: &Result<Priced, price::Refusal>, call: Call) -> Result<Budget, Refusal> {
     let priced = plan.as_ref();
     let priced = priced.map_err(|refusal| Refusal::OfPrice(refusal.clone()))?;
-    let [units, cents] = needed(priced.horizon);
+    let [units, cents] = needed(priced.sheet.horizon);
     let [units, cents] = [call.units_count < units, call.cents_count < cents];
     if call.general > HIGHEST_GENERAL {
         Err(Refusal::HighGeneral)
@@ -120,6 +127,14 @@ impl Payment {
         self.plain_steps + self.service_steps
     }
 
+    /// In money of its year, if that has a word of cents.
+    pub fn word_of_cents(&self, general: u64) -> u128 {
+        match self.year() {
+            ..=LAST_OF_CENTS => self.cents(general as i64),
+            _ => 0,
+        }
+    }
+
     /// In money of its year.
     fn cents(&self, general: i64) -> u128 {
         let mut running = self.amount as u128 * CENTS;
@@ -146,8 +161,8 @@ fn risen(cents: u128, rate: i64) -> u128 {
 #[cfg(test)]
 mod tests {
     use super::*;
-    use crate::cases::{case_12, fifteen_year_sheet, two_year_sheet};
-    use crate::plan::{written, Chain};
+    use crate::cases::*;
+    use crate::plan::written;
     use crate::sheet::*;
 
     fn plan(i: i64, j: i64, ends: &[i64]) -> Vec<u8> {
@@ -221,6 +236,31 @@ mod tests {
         assert_eq!(cents[15], 3_203_009_131_254);
         assert_eq!(units[0], 0);
         assert_eq!(units[1..], [10_000_000_000_000; 15]);
+    }
+
+    // In units and in cents, electricity of year 2 takes two steps in service and that of year 3
+    // three, in whichever year the building is renovated; 102 cents are then 104.04, and 105 are
+    // 107.1.
+    #[test]
+    fn a_renovation_with_old_motors() {
+        for (i, units, cents) in [
+            (1, vec![0, 9_807, 9_621, 9_437], vec![0, 102, 105, 108]),
+            (2, vec![0, 9_807, 9_618, 9_437], vec![0, 102, 105, 108]),
+        ] {
+            let priced = priced(&postponed_sheet(), i, 3, &[]);
+            assert_eq!(lists(&priced, 0), (units, cents));
+        }
+    }
+
+    // The same payment as above, of motors that are 14 years old when the building is renovated.
+    #[test]
+    fn the_largest_payment_of_old_motors() {
+        let mut sheet = steady_motors_sheet();
+        write(&mut sheet, HORIZON, 15);
+        let (units, cents) = lists(&priced(&sheet, 14, 15, &[]), 50_000);
+        assert_eq!((&units[..15], &cents[..15]), (&[0; 15][..], &[0; 15][..]));
+        assert_eq!(units[15], 10_000_000_000_000);
+        assert_eq!(cents[15], 3_203_009_131_254);
     }
 
     // The overhaul of 15 falls in the third year of an arc, and is not paid in its last.

@@ -1,8 +1,9 @@
 //! The outcomes of budgeting that are told apart when they are counted.
 
 use crate::answer::described;
-use crate::budget::{Budget, Call, Refusal, HIGHEST_GENERAL, LAST_OF_CENTS};
+use crate::budget::{Budget, Call, Priced, Refusal, HIGHEST_GENERAL, LAST_OF_CENTS};
 use crate::compare::possible_answers;
+use crate::old_motors::{show_in_cents, show_in_units};
 use crate::parts::Parts;
 use crate::price;
 use crate::quotients::{Rest, RESTS};
@@ -46,6 +47,9 @@ pub enum Kind {
     Chain(Parts),
     /// The plan is the library's own.
     Planned,
+    /// Words would be others if the motors of a renovation were new.
+    OldMotorsInUnits,
+    OldMotorsInCents,
     Rise(Rate, Rest),
 }
 
@@ -108,6 +112,7 @@ impl Kind {
             .chain(horizons.map(Kind::Horizon))
             .chain([0, 1, HIGHEST_GENERAL].map(Kind::General))
             .chain([Kind::PaidInYear15, Kind::Planned])
+            .chain([Kind::OldMotorsInUnits, Kind::OldMotorsInCents])
             .chain(Parts::all().map(Kind::Chain))
             .chain(rates.flat_map(|rate| RESTS.map(|rest| Kind::Rise(rate, rest))))
     }
@@ -127,8 +132,8 @@ impl Kind {
         kinds
     }
 
-    /// Those of an accepted one, by what is written.
-    pub fn of_accepted(call: Call, budget: &Budget) -> Vec<Kind> {
+    /// Those of an accepted one, by what is written for which plan.
+    pub fn of_accepted(priced: &Priced, call: Call, budget: &Budget) -> Vec<Kind> {
         let [units, cents] = [&budget.units, &budget.cents];
         let more_units = call.units_count > units.len();
         let more_cents = call.cents_count > cents.len();
@@ -138,9 +143,13 @@ impl Kind {
             Kind::General(call.general),
         ];
         let in_year_15 = cents.get(LAST_OF_CENTS as usize);
-        if in_year_15.is_some_and(|&word| word > 0) {
-            kinds.push(Kind::PaidInYear15);
-        }
+        let further = [
+            (in_year_15.is_some_and(|&word| word > 0), Kind::PaidInYear15),
+            (show_in_units(priced), Kind::OldMotorsInUnits),
+            (show_in_cents(priced, call.general), Kind::OldMotorsInCents),
+        ];
+        let further = further.into_iter().filter(|(is, _)| *is);
+        kinds.extend(further.map(|(_, kind)| kind));
         kinds
     }
 

@@ -1,4 +1,5 @@
-//! The sheets of document 01's plan cases, that of the paper's case study, and two for budgets.
+//! The sheets of document 01's plan cases, that of the paper's case study, two for budgets, and
+//! those on which request 4 shows.
 
 use crate::sheet::*;
 
@@ -124,4 +125,76 @@ pub fn fifteen_year_sheet() -> Vec<u8> {
     ];
     set(&mut sheet, 2, &fields);
     sheet
+}
+
+/// An option whose one payment is electricity of 1 a year.
+fn set_motors(sheet: &mut [u8], option: usize, longest: i64, ageing: i64) {
+    let fields = [
+        (SHORTEST, 1),
+        (LONGEST, longest),
+        (ELECTRICITY, 1),
+        (ELECTRICITY_AGEING, ageing),
+    ];
+    set(sheet, option, &fields);
+}
+
+/// Renovate and replace have the same record, of one or two years.
+pub fn same_motors_sheet() -> Vec<u8> {
+    let mut sheet = with_head(3, 40_000);
+    set_motors(&mut sheet, 1, 2, 20_000);
+    set_motors(&mut sheet, 2, 2, 20_000);
+    sheet
+}
+
+/// Maintain and renovate are offered for one or two years. As the motors age all the same,
+/// renovating waits for year 2; if it brought new ones, it would not.
+pub fn postponed_sheet() -> Vec<u8> {
+    let mut sheet = with_head(3, 40_000);
+    let fields = [
+        (SHORTEST, 1),
+        (LONGEST, 2),
+        (MAINTENANCE, 1),
+        (MAINTENANCE_INFLATION, 19_900),
+    ];
+    set(&mut sheet, 0, &fields);
+    set_motors(&mut sheet, 1, 2, 20_000);
+    sheet
+}
+
+/// Each option is offered for one year, and maintaining costs nothing. In year 1 a replacement,
+/// whose motors age faster, costs less than a renovation, but more than one with new motors.
+pub fn replaced_sheet() -> Vec<u8> {
+    let mut sheet = with_head(2, 40_000);
+    set(&mut sheet, 0, &[(SHORTEST, 1), (LONGEST, 1)]);
+    set_motors(&mut sheet, 1, 1, 20_000);
+    set_motors(&mut sheet, 2, 1, 30_000);
+    sheet
+}
+
+/// T 300, r 200,000; maintaining costs nothing, and renovating and replacing only electricity, 10^9
+/// a year with these rates.
+fn costly_motors_sheet(inflation: i64, ageing: i64) -> Vec<u8> {
+    let mut sheet = with_head(300, 200_000);
+    for (option, amount) in [0, 1_000_000_000, 1_000_000_000].into_iter().enumerate() {
+        let fields = [
+            (SHORTEST, 1),
+            (LONGEST, 120),
+            (ELECTRICITY, amount),
+            (ELECTRICITY_INFLATION, inflation),
+            (ELECTRICITY_AGEING, ageing),
+        ];
+        set(&mut sheet, option, &fields);
+    }
+    sheet
+}
+
+/// The lowest inflation and the highest ageing.
+pub fn fastest_motors_sheet() -> Vec<u8> {
+    costly_motors_sheet(-100_000, 300_000)
+}
+
+/// 960,000 × 1,250,000 is 10^6 × 1,200,000, the limit of check 8: in service the amount stays as it
+/// is.
+pub fn steady_motors_sheet() -> Vec<u8> {
+    costly_motors_sheet(-40_000, 250_000)
 }

@@ -134,7 +134,7 @@ mod tests {
                 lives = lives.beside(&mut random);
             }
             if let Some(chain) = some_chain(&mut random, &lives) {
-                let read = checked(&sheet).ok().expect("a valid sheet");
+                let read = checked(&sheet).expect("a valid sheet");
                 let judged = feasible_chain(&read, &written(&chain, 0));
                 counts.push(judged.err().map_or(0, |faults| faults.len()));
             }

@@ -5,13 +5,13 @@ use crate::answer::described;
 use crate::budget::{answer, budget, needed, Budget, Call, Priced, Refusal, HIGHEST_GENERAL};
 use crate::budget_kinds::Kind;
 use crate::calls::{every_general, every_length, few_calls, some_calls};
-use crate::cases::{case_11, case_12, fifteen_year_sheet, paper_sheet, two_year_sheet};
+use crate::cases::*;
 use crate::check::checked;
 use crate::damaged::random_sheet;
 use crate::library;
 use crate::lists::Lists;
 use crate::parts::Parts;
-use crate::plan::{plan_bytes, read, Chain, REPLACEMENTS};
+use crate::plan::{plan_bytes, Chain, REPLACEMENTS};
 use crate::plans::*;
 use crate::price;
 use crate::random::Random;
@@ -27,8 +27,10 @@ const BRIEF_SHEETS: usize = 500;
 const CHAINED_SHEETS: usize = 3_000;
 const SMALL_SHEETS: usize = 1_500;
 const STEEP_SHEETS: usize = 1_000;
+const MOTORS_SHEETS: usize = 1_000;
 const LONG_SHEETS: usize = 30;
 const CORNER_SHEETS: usize = 20;
+const CORNER_MOTORS_SHEETS: usize = 20;
 const FREQUENT_SHEETS: usize = 30;
 /// This many get lists of every length.
 const SWEPT_SHEETS: usize = 30;
@@ -65,9 +67,9 @@ impl Case<'_> {
             Err(refusal) => return Kind::of_refused(self.needed, call, refusal),
             Ok(budget) => budget,
         };
-        let chain = read(self.plan).expect("an accepted plan");
-        let mut kinds = Kind::of_accepted(call, budget);
-        kinds.push(Kind::Chain(Parts::of(self.sheet, &chain)));
+        let priced = self.priced.as_ref().expect("an accepted plan");
+        let mut kinds = Kind::of_accepted(priced, call, budget);
+        kinds.push(Kind::Chain(Parts::of(self.sheet, &priced.chain)));
         kinds
     }
 
@@ -201,6 +203,11 @@ impl Comparison {
             paper_sheet(),
             two_year_sheet(),
             fifteen_year_sheet(),
+            same_motors_sheet(),
+            postponed_sheet(),
+            replaced_sheet(),
+            fastest_motors_sheet(),
+            steady_motors_sheet(),
         ]
         .iter()
         .try_for_each(|sheet| self.some_plans(sheet))
@@ -265,11 +272,14 @@ impl Comparison {
         let calls = self.tally.summary("budgets", kinds, LEAST_SEEN)?;
         let [accepted, plan, general, lists] =
             [0, 14, 15, 16].map(|number| self.tally.seen(Kind::Number(number)));
+        let [units, cents] =
+            [Kind::OldMotorsInUnits, Kind::OldMotorsInCents].map(|kind| self.tally.seen(kind));
         Ok(format!(
             "{calls}: number 0 {accepted} times, 14 {plan}, 15 {general}, 16 {lists}; all \
              {accepted} lists of units add up to the price; at every general inflation to \
              {HIGHEST_GENERAL}, and each rate with cents that are whole, just above and just below \
-             a whole number"
+             a whole number; {units} lists of units and {cents} of cents would be others if \
+             renovating renewed the motors"
         ))
     }
 }
@@ -284,8 +294,10 @@ pub fn compare_budgets(seed: u64) -> Result<String, String> {
     comparison.sheets_of(chained_sheet, CHAINED_SHEETS)?;
     comparison.sheets_of(small_sheet, SMALL_SHEETS)?;
     comparison.sheets_of(steep_sheet, STEEP_SHEETS)?;
+    comparison.sheets_of(motors_sheet, MOTORS_SHEETS)?;
     comparison.sheets_of(long_sheet, LONG_SHEETS)?;
     comparison.sheets_of(corner_sheet, CORNER_SHEETS)?;
+    comparison.sheets_of(corner_motors_sheet, CORNER_MOTORS_SHEETS)?;
     comparison.sheets_of(frequent_sheet, FREQUENT_SHEETS)?;
     comparison.sweep()?;
     comparison.damaged_sheets()?;

@@ -1,16 +1,23 @@
-//! The comparison of the library's costs with the independent ones.
+//! The comparison of the library's costs with the independent ones, and of some with the exact
+//! values of their arcs.
 
-use crate::answer::described;
+use crate::answer::{described, Answer};
+use crate::arc_costs::ArcCosts;
 use crate::arcs::{every_arc, far_arcs, limit_arcs, moved, wrapped_arcs};
+use crate::cases::*;
+use crate::check::checked;
 use crate::compare::possible_answers;
-use crate::cost::{answer, cost, Arc, Fault, Refusal};
+use crate::cost::{answer, cost, Arc, Fault, Refusal, RENOVATE};
 use crate::damaged::random_sheet;
+use crate::exact::judge_cost;
 use crate::library;
+use crate::old_motors::{costs_with_new, show_in_arc};
 use crate::quotients::{quotients, Division, Rest, DIVISIONS, RESTS};
 use crate::random::Random;
 use crate::report::{difference, Tally};
 use crate::sheet::{of_option, unsigned, LONGEST};
-use crate::sheets::{corner_sheet, long_sheet, small_sheet};
+use crate::sheets::*;
+use std::iter::zip;
 
 /// Every kind of outcome must occur this often, or the arcs test too little.
 const LEAST_SEEN: u64 = 100;
@@ -22,6 +29,9 @@ const MOVED_ARCS: usize = 8;
 /// This many sheets get the arcs near their limits.
 const LONG_SHEETS: usize = 40;
 const CORNER_SHEETS: usize = 24;
+/// This many sheets whose motors age fast get every arc, and this many every renovation.
+const MOTORS_SHEETS: usize = 60;
+const CORNER_MOTORS_SHEETS: usize = 4;
 /// This many sheets, most of them refused, get a few arcs.
 const DAMAGED_SHEETS: usize = 20_000;
 /// Every discount rate up to this one gets quotients beside whole numbers.
@@ -44,6 +54,8 @@ enum Kind {
     },
     /// As well as the kind above.
     Quotient(Division, Rest),
+    /// As well: the cost would be another one if the motors of the renovation were new.
+    OldMotors,
 }
 
 impl Kind {
@@ -82,6 +94,7 @@ impl Kind {
             .chain(empty)
             .chain(costed)
             .chain(quotients)
+            .chain([Kind::OldMotors])
     }
 
     fn described(self) -> String {
@@ -93,25 +106,40 @@ impl Kind {
             }
             Kind::Costed { option } => format!("a cost of option {option}"),
             Kind::Quotient(division, rest) => format!("{division:?} with rest {rest:?}"),
+            Kind::OldMotors => "a cost with old motors".into(),
         }
     }
 }
 
+/// Of an arc that is accepted. Most are replacements, for which the sheet need not be read.
+fn has_old_motors(sheet: &[u8], arc: Arc) -> bool {
+    arc.option == RENOVATE && show_in_arc(&checked(sheet).expect("an accepted sheet"), arc)
+}
+
 struct Comparison {
     tally: Tally<Kind>,
+    /// How many costs were judged by the exact value.
+    judged: u64,
 }
 
 impl Comparison {
+    fn expect(&mut self, sheet: &[u8], arc: Arc, expected: Answer) -> Result<(), String> {
+        let [given, expected] = [library::cost(sheet, arc), expected.packed()];
+        if given != expected {
+            return Err(format!("{arc:?}: {}", difference(given, expected, sheet)));
+        }
+        self.tally.compared += 1;
+        Ok(())
+    }
+
     /// Whether both accept the arc.
     fn compare(&mut self, sheet: &[u8], arc: Arc) -> Result<bool, String> {
         let outcome = cost(sheet, arc);
-        let expected = answer(outcome).packed();
-        let answer = library::cost(sheet, arc);
-        if answer != expected {
-            return Err(format!("{arc:?}: {}", difference(answer, expected, sheet)));
-        }
-        self.tally.compared += 1;
+        self.expect(sheet, arc, answer(outcome))?;
         self.tally.saw(Kind::of(sheet, arc, outcome));
+        if outcome.is_ok() && has_old_motors(sheet, arc) {
+            self.tally.saw(Kind::OldMotors);
+        }
         Ok(outcome.is_ok())
     }
 
@@ -166,6 +194,54 @@ impl Comparison {
         Ok(())
     }
 
+    /// Sheets whose renovations keep motors that age fast, up to year 40 and up to year 300.
+    fn motors(&mut self, random: &mut Random) -> Result<(), String> {
+        let mut small = vec![same_motors_sheet(), postponed_sheet(), replaced_sheet()];
+        small.extend((0..MOTORS_SHEETS).map(|_| motors_sheet(random)));
+        for sheet in small {
+            let accepted = self.compare_all(&sheet, every_arc(&sheet))?;
+            self.judge(&sheet, &accepted)?;
+        }
+        let mut large = vec![fastest_motors_sheet(), steady_motors_sheet()];
+        large.extend((0..CORNER_MOTORS_SHEETS).map(|_| corner_motors_sheet(random)));
+        for sheet in large {
+            let mut arcs = limit_arcs(random, &sheet);
+            arcs.retain(|arc| arc.option == RENOVATE);
+            let accepted = self.compare_all(&sheet, arcs)?;
+            self.judge(&sheet, &accepted)?;
+            self.every_renovation(&sheet)?;
+        }
+        Ok(())
+    }
+
+    fn judge(&mut self, sheet: &[u8], accepted: &[Arc]) -> Result<(), String> {
+        for &arc in accepted.iter().filter(|arc| arc.start < arc.end) {
+            judge_cost(sheet, arc, library::cost(sheet, arc) / 256)?;
+            self.judged += 1;
+        }
+        Ok(())
+    }
+
+    /// The costs are those of the planner, which takes little time for all of them.
+    fn every_renovation(&mut self, bytes: &[u8]) -> Result<(), String> {
+        let sheet = checked(bytes).map_err(|_| "not a sheet")?;
+        let option = RENOVATE;
+        let [renovations, with_new] = [ArcCosts::of(&sheet, 1), costs_with_new(&sheet)];
+        for start in 0..=sheet.horizon as usize {
+            let pairs = zip(renovations.from(start), with_new.from(start));
+            for ((end, cost), (_, with_new)) in pairs {
+                let [start, end] = [start, end].map(|year| year as u64);
+                let arc = Arc { option, start, end };
+                self.expect(bytes, arc, Answer::accepted(cost))?;
+                self.tally.saw(Kind::Costed { option });
+                if cost != with_new {
+                    self.tally.saw(Kind::OldMotors);
+                }
+            }
+        }
+        Ok(())
+    }
+
     /// At every discount rate, both divisions with quotients that are whole, just above and just
     /// below a whole number.
     fn every_rate(&mut self, random: &mut Random) -> Result<(), String> {
@@ -196,7 +272,11 @@ impl Comparison {
         let calls = self.tally.summary("arcs", kinds, LEAST_SEEN)?;
         Ok(format!(
             "{calls}; at every rate to {HIGHEST_RATE}, both divisions with quotients that are \
-             whole, just above and just below a whole number"
+             whole, just above and just below a whole number; all {} costs judged, from year t to \
+             u, from 0 to (5u² + 3u − 5t² − 3t)/2 units above their exact value; {} costs would be \
+             others if renovating renewed the motors",
+            self.judged,
+            self.tally.seen(Kind::OldMotors)
         ))
     }
 }
@@ -205,10 +285,12 @@ pub fn compare_costs(seed: u64) -> Result<String, String> {
     let mut random = Random(seed);
     let mut comparison = Comparison {
         tally: Tally::new(),
+        judged: 0,
     };
     comparison.small_sheets(&mut random)?;
     comparison.near_limits(&mut random, long_sheet, LONG_SHEETS)?;
     comparison.near_limits(&mut random, corner_sheet, CORNER_SHEETS)?;
+    comparison.motors(&mut random)?;
     comparison.damaged_sheets(&mut random)?;
     comparison.every_rate(&mut random)?;
     comparison.summary()

@@ -3,7 +3,7 @@
 //! chains, and where all chains are listed, the planned chain with every other one.
 
 use crate::answer::{described, Answer};
-use crate::cases::{case_10, case_11, case_12, case_9, paper_sheet};
+use crate::cases::*;
 use crate::check::checked;
 use crate::compare::possible_answers;
 use crate::damaged::random_sheet;
@@ -11,6 +11,7 @@ use crate::exact::{judge_total, totals_judged, Exact};
 use crate::lent::Lent;
 use crate::library;
 use crate::listing::{feasible_chains, listed};
+use crate::old_motors::{change_the_chain, show_in_chain};
 use crate::parts::Parts;
 use crate::plan::{plan_bytes, written, HEAD_BYTES, TOTAL};
 use crate::planner::{planned, Planned};
@@ -39,6 +40,10 @@ const SMALL_SHEETS: [usize; 2] = [800, 300];
 const LONG_SHEETS: [usize; 2] = [60, 30];
 const CORNER_SHEETS: [usize; 2] = [40, 30];
 const FREQUENT_SHEETS: [usize; 2] = [120, 80];
+const BRIEF_MOTORS_SHEETS: [usize; 2] = [1_000, 0];
+const MOTORS_SHEETS: [usize; 2] = [500, 0];
+const CORNER_MOTORS_SHEETS: [usize; 2] = [10, 0];
+const FREQUENT_MOTORS_SHEETS: [usize; 2] = [300, 0];
 /// This many get every plan length up to that of the longest plan, and every count of words.
 const SWEPT_SHEETS: usize = 12;
 /// This many, most of them refused, get a few buffers.
@@ -71,10 +76,15 @@ enum Kind {
     TieOfJ,
     TieOfEnds,
     Ties,
+    /// Of a sheet: if the motors of renovations were new, the total of the planned chain would be
+    /// another one; the same with T 300; another chain would be planned.
+    OldMotors,
+    OldMotorsTo300,
+    OtherChain,
 }
 
 /// Those that are not about a chain's parts, a refused sheet or a count of words.
-const FURTHER_KINDS: [(Kind, &str); 13] = [
+const FURTHER_KINDS: [(Kind, &str); 16] = [
     (Kind::TooFewWords, "number 10"),
     (Kind::NoChain, "number 11"),
     (Kind::ShortPlan, "number 12"),
@@ -88,6 +98,9 @@ const FURTHER_KINDS: [(Kind, &str); 13] = [
     (Kind::TieOfJ, "a tie of j"),
     (Kind::TieOfEnds, "a tie of ends"),
     (Kind::Ties, "a tie"),
+    (Kind::OldMotors, "a total with old motors"),
+    (Kind::OldMotorsTo300, "a total to year 300 with old motors"),
+    (Kind::OtherChain, "a chain chosen for its old motors"),
 ];
 
 fn all_kinds() -> impl Iterator<Item = (Kind, String)> {
@@ -192,6 +205,7 @@ impl Comparison {
                 .map_err(|fault| format!("{fault}: {}", hex(bytes)))?;
         }
         self.count(bytes, &planned);
+        self.count_motors(&sheet, &planned);
         Ok(Outcome::Planned(planned))
     }
 
@@ -226,15 +240,29 @@ impl Comparison {
         };
         let ties = choice.ties;
         self.tally.saw(Kind::Chain(Parts::of(sheet, &choice.chain)));
-        let seen = [
+        self.saw_all([
             (to_300, Kind::ChainTo300),
             (to_300 && ties.any(), Kind::TiesTo300),
             (ties.of_i, Kind::TieOfI),
             (ties.of_j, Kind::TieOfJ),
             (ties.of_ends, Kind::TieOfEnds),
             (ties.any(), Kind::Ties),
-        ];
-        for (_, kind) in seen.into_iter().filter(|(is, _)| *is) {
+        ]);
+    }
+
+    fn count_motors(&mut self, sheet: &Sheet, planned: &Planned) {
+        let choice = planned.choice.as_ref();
+        let show = choice.is_some_and(|choice| show_in_chain(sheet, &choice.chain));
+        self.saw_all([
+            (show, Kind::OldMotors),
+            (show && sheet.horizon == 300, Kind::OldMotorsTo300),
+            (change_the_chain(sheet, planned), Kind::OtherChain),
+        ]);
+    }
+
+    /// Counts the kinds that are met.
+    fn saw_all<const N: usize>(&mut self, kinds: [(bool, Kind); N]) {
+        for (_, kind) in kinds.into_iter().filter(|(met, _)| *met) {
             self.tally.saw(kind);
         }
     }
@@ -361,10 +389,30 @@ impl Comparison {
         Ok(())
     }
 
+    /// Sheets whose renovations keep motors that age fast.
+    fn motors(&mut self) -> Result<(), String> {
+        let [all, few] = [Comparison::all_lengths, Comparison::few_lengths];
+        self.sheets_of(brief_motors_sheet, BRIEF_MOTORS_SHEETS, all)?;
+        self.sheets_of(motors_sheet, MOTORS_SHEETS, all)?;
+        self.sheets_of(corner_motors_sheet, CORNER_MOTORS_SHEETS, few)?;
+        self.sheets_of(frequent_motors_sheet, FREQUENT_MOTORS_SHEETS, few)
+    }
+
     fn cases(&mut self) -> Result<(), String> {
-        [case_9(), case_10(), case_11(), case_12(), paper_sheet()]
-            .iter()
-            .try_for_each(|sheet| self.all_lengths(sheet))
+        [
+            case_9(),
+            case_10(),
+            case_11(),
+            case_12(),
+            paper_sheet(),
+            same_motors_sheet(),
+            postponed_sheet(),
+            replaced_sheet(),
+            fastest_motors_sheet(),
+            steady_motors_sheet(),
+        ]
+        .iter()
+        .try_for_each(|sheet| self.all_lengths(sheet))
     }
 
     /// With and without a fault of the buffers: the sheet's refusal comes first.
@@ -385,18 +433,21 @@ impl Comparison {
 
     fn summary(&self) -> Result<String, String> {
         let calls = self.tally.summary("plannings", all_kinds(), LEAST_SEEN)?;
-        let [accepted, few_words, no_chain, short_plan, ties] = [
+        let [accepted, few_words, no_chain, short_plan, ties, old_motors, other_chain] = [
             Kind::Accepted,
             Kind::TooFewWords,
             Kind::NoChain,
             Kind::ShortPlan,
             Kind::Ties,
+            Kind::OldMotors,
+            Kind::OtherChain,
         ]
         .map(|kind| self.tally.seen(kind));
         Ok(format!(
             "{calls}: number 0 {accepted} times, 10 {few_words}, 11 {no_chain}, 12 {short_plan}; \
              {} sheets planned, {ties} with ties; {}; up to T {LISTED_HORIZON} none of {} chains \
-             more than that below the planned one",
+             more than that below the planned one; {old_motors} planned totals and {other_chain} \
+             planned chains would be others if renovating renewed the motors",
             self.sheets,
             totals_judged(accepted),
             self.chains
@@ -418,6 +469,7 @@ pub fn compare_plans(seed: u64) -> Result<String, String> {
     comparison.sheets_of(long_sheet, LONG_SHEETS, Comparison::few_lengths)?;
     comparison.sheets_of(corner_sheet, CORNER_SHEETS, Comparison::few_lengths)?;
     comparison.sheets_of(frequent_sheet, FREQUENT_SHEETS, Comparison::few_lengths)?;
+    comparison.motors()?;
     comparison.sweep()?;
     comparison.damaged_sheets()?;
     comparison.summary()

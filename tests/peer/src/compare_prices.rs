@@ -2,10 +2,14 @@
 //! their chains.
 
 use crate::answer::described;
+use crate::cases::{postponed_sheet, replaced_sheet, same_motors_sheet};
+use crate::check::checked;
 use crate::compare::possible_answers;
 use crate::damaged::random_sheet;
 use crate::exact::{judge_total, totals_judged};
 use crate::library;
+use crate::listing::feasible_chains;
+use crate::old_motors::show_in_chain;
 use crate::parts::Parts;
 use crate::plan::{read, written, Chain, Missing};
 use crate::plans::*;
@@ -13,7 +17,7 @@ use crate::price::{answer, price, Fault, Refusal};
 use crate::random::Random;
 use crate::report::{difference, hex, Tally};
 use crate::sheet::{unsigned, HORIZON};
-use crate::sheets::{chained_sheet, corner_sheet, long_sheet, small_sheet};
+use crate::sheets::*;
 
 /// Every kind of outcome must occur this often, or the plans test too little.
 const LEAST_SEEN: u64 = 200;
@@ -22,6 +26,8 @@ const CHAINED_SHEETS: usize = 12_000;
 const SMALL_SHEETS: usize = 3_000;
 const LONG_SHEETS: usize = 250;
 const CORNER_SHEETS: usize = 250;
+const MOTORS_SHEETS: usize = 2_000;
+const CORNER_MOTORS_SHEETS: usize = 30;
 /// This many get every bit, every length and other values in every number of one plan.
 const SWEPT_SHEETS: usize = 40;
 /// This many, most of them refused, get a few plans.
@@ -40,6 +46,8 @@ enum Kind {
     Priced(Parts),
     /// As well as the kind above.
     PricedTo300,
+    /// As well: the total would be another one if the motors of a renovation were new.
+    OldMotors,
 }
 
 fn all_faults() -> Vec<Fault> {
@@ -85,7 +93,7 @@ impl Kind {
             .chain(all_faults().into_iter().map(Kind::RefusedPlan))
             .chain([Kind::SeveralFaults])
             .chain(Parts::all().map(Kind::Priced))
-            .chain([Kind::PricedTo300])
+            .chain([Kind::PricedTo300, Kind::OldMotors])
     }
 
     fn described(self) -> String {
@@ -95,6 +103,7 @@ impl Kind {
             Kind::SeveralFaults => "number 14 for several faults".into(),
             Kind::Priced(parts) => parts.described(),
             Kind::PricedTo300 => "a chain to year 300".into(),
+            Kind::OldMotors => "a total with old motors".into(),
         }
     }
 }
@@ -132,6 +141,10 @@ impl Comparison {
         if unsigned(sheet, HORIZON) == 300 {
             self.tally.saw(Kind::PricedTo300);
         }
+        let read_sheet = checked(sheet).expect("an accepted sheet");
+        if show_in_chain(&read_sheet, &read(plan).expect("an accepted plan")) {
+            self.tally.saw(Kind::OldMotors);
+        }
         Ok(())
     }
 
@@ -166,6 +179,16 @@ impl Comparison {
             for _ in 0..3 {
                 plans.extend(chain_beside(random, &sheet).map(|chain| plan_of(random, &chain)));
             }
+            self.compare_all(&sheet, plans)?;
+        }
+        Ok(())
+    }
+
+    /// Every chain of some sheets on which request 4 shows.
+    fn every_chain(&mut self) -> Result<(), String> {
+        for sheet in [same_motors_sheet(), postponed_sheet(), replaced_sheet()] {
+            let chains = feasible_chains(&checked(&sheet).map_err(|_| "not a sheet")?);
+            let plans = chains.iter().map(|chain| written(chain, 0)).collect();
             self.compare_all(&sheet, plans)?;
         }
         Ok(())
@@ -217,7 +240,11 @@ impl Comparison {
     fn summary(&self) -> Result<String, String> {
         let kinds = Kind::all().map(|kind| (kind, kind.described()));
         let calls = self.tally.summary("plans", kinds, LEAST_SEEN)?;
-        Ok(format!("{calls}; {}", totals_judged(self.totals)))
+        Ok(format!(
+            "{calls}; {}; {} totals would be others if renovating renewed the motors",
+            totals_judged(self.totals),
+            self.tally.seen(Kind::OldMotors)
+        ))
     }
 }
 
@@ -231,6 +258,9 @@ pub fn compare_prices(seed: u64) -> Result<String, String> {
     comparison.some_plans(&mut random, small_sheet, SMALL_SHEETS)?;
     comparison.some_plans(&mut random, long_sheet, LONG_SHEETS)?;
     comparison.some_plans(&mut random, corner_sheet, CORNER_SHEETS)?;
+    comparison.some_plans(&mut random, motors_sheet, MOTORS_SHEETS)?;
+    comparison.some_plans(&mut random, corner_motors_sheet, CORNER_MOTORS_SHEETS)?;
+    comparison.every_chain()?;
     comparison.swept_plans(&mut random)?;
     comparison.corner_plans(&mut random)?;
     comparison.damaged_sheets(&mut random)?;

@@ -1,16 +1,16 @@
-//! What an arc costs, and refusal 13, written from document 01 and the rounding of document 02's
-//! request 1 alone. Every payment is moved forward on its own, from its amount in year 0 to its
-//! year.
+//! What an arc costs, and refusal 13, written from document 01 and document 02's requests 1 and 4
+//! alone. Every payment is moved forward on its own, from its amount in year 0 to its year.
 
 use crate::answer::Answer;
 use crate::check::checked;
-use crate::sheet::{Record, Sheet};
+use crate::sheet::{Flow, Record, Sheet};
 use std::iter;
 
 const UNITS: u128 = 10_000;
 pub const MILLION: u128 = 1_000_000;
 const MAINTAIN: u64 = 0;
-const REPLACE: u64 = 2;
+pub const RENOVATE: u64 = 1;
+pub const REPLACE: u64 = 2;
 
 /// An option kept from a start year to an end year, as a caller gives them: any three numbers.
 #[derive(Clone, Copy, Debug)]
@@ -90,7 +90,7 @@ pub fn arc_cost(sheet: &Sheet, arc: Arc) -> u64 {
     if start == end {
         return 0;
     }
-    let sum: u128 = payments(record, start, end - start)
+    let sum: u128 = payments(arc.option, record, start, end - start)
         .map(|payment| payment.value(sheet.rate))
         .sum();
     u64::try_from(sum).expect("249 payments of about 10^13 at most")
@@ -105,8 +105,13 @@ pub struct Payment {
     pub service_steps: i64,
 }
 
-/// The payments of an arc of length 1 or more.
-pub fn payments(record: &Record, start: i64, length: i64) -> impl Iterator<Item = Payment> + '_ {
+/// The payments of an arc of length 1 or more of an option with this record.
+pub fn payments(
+    option: u64,
+    record: &Record,
+    start: i64,
+    length: i64,
+) -> impl Iterator<Item = Payment> + '_ {
     let investment = Payment {
         amount: record.investment,
         inflation: record.investment_inflation,
@@ -125,17 +130,33 @@ pub fn payments(record: &Record, start: i64, length: i64) -> impl Iterator<Item 
             plain_steps: start + overhaul.age,
             service_steps: 0,
         });
-    let flows = [&record.maintenance, &record.electricity];
-    let yearly = flows.into_iter().flat_map(move |flow| {
-        (1..=length).map(move |k| Payment {
-            amount: flow.amount,
-            inflation: flow.inflation,
-            ageing: flow.ageing,
-            plain_steps: start,
-            service_steps: k,
-        })
+    let yearly = (1..=length).flat_map(move |k| {
+        [
+            yearly(&record.maintenance, [start, k]),
+            yearly(&record.electricity, electricity_steps(option, start, k)),
+        ]
     });
     iter::once(investment).chain(overhauls).chain(yearly)
+}
+
+fn yearly(flow: &Flow, [plain_steps, service_steps]: [i64; 2]) -> Payment {
+    Payment {
+        amount: flow.amount,
+        inflation: flow.inflation,
+        ageing: flow.ageing,
+        plain_steps,
+        service_steps,
+    }
+}
+
+/// How many plain steps, and then how many in service, bring electricity to year k of an arc.
+/// Renovating renews the building, while the motors go on ageing: in a renovate arc from i the
+/// electricity takes in-service steps from year 0, i + k of them for year k, and no plain steps.
+fn electricity_steps(option: u64, start: i64, k: i64) -> [i64; 2] {
+    match option {
+        RENOVATE => [0, start + k],
+        _ => [start, k],
+    }
 }
 
 impl Payment {
@@ -179,7 +200,7 @@ pub fn up(dividend: u128, divisor: u128) -> u128 {
 #[cfg(test)]
 mod tests {
     use super::*;
-    use crate::cases::paper_sheet;
+    use crate::cases::{paper_sheet, same_motors_sheet, steady_motors_sheet};
     use crate::sheet::*;
 
     fn lives(option: usize, shortest: i64, longest: i64) -> [(Field, i64); 2] {
@@ -310,11 +331,52 @@ mod tests {
             &mut sheet,
             &fields.map(|(inner, value)| (of_option(1, inner), value)),
         );
-        // Investment, maintenance, electricity; then the overhaul and the second year.
-        let one_year = 10_000 + 810_000 + 89_100_000;
-        let two_years = one_year + 8_100_000_000 + 729_000 + 88_209_000;
+        // Investment, maintenance, electricity by two steps in service; then the overhaul and the
+        // second year, its electricity by three.
+        let one_year = 10_000 + 810_000 + 98_010_000;
+        let two_years = one_year + 8_100_000_000 + 729_000 + 97_029_900;
         assert_eq!(cost_on(&sheet, 1, 1, 2), Ok(one_year));
         assert_eq!(cost_on(&sheet, 1, 1, 3), Ok(two_years));
+    }
+
+    // After one step in service 10,000 units are 9,808, after two 9,621, after three 9,437; after a
+    // plain one and one in service they are 9,432, and one more makes 9,251.
+    #[test]
+    fn a_renovation_keeps_motors_that_are_as_old_as_year_0() {
+        let sheet = same_motors_sheet();
+        for (start, end, old, new) in [
+            (0, 1, 9_808, 9_808),
+            (0, 2, 19_429, 19_429),
+            (1, 2, 9_621, 9_432),
+            (1, 3, 19_058, 18_683),
+            (2, 3, 9_437, 9_070),
+        ] {
+            assert_eq!(cost_on(&sheet, 1, start, end), Ok(old));
+            assert_eq!(cost_on(&sheet, 2, start, end), Ok(new));
+        }
+    }
+
+    #[test]
+    fn its_maintenance_ages_from_its_start() {
+        let mut sheet = same_motors_sheet();
+        for option in [1, 2] {
+            write(&mut sheet, of_option(option, MAINTENANCE), 1);
+            write(&mut sheet, of_option(option, MAINTENANCE_AGEING), 20_000);
+        }
+        assert_eq!(cost_on(&sheet, 1, 1, 2), Ok(9_432 + 9_621));
+        assert_eq!(cost_on(&sheet, 1, 1, 3), Ok(18_683 + 19_058));
+        assert_eq!(cost_on(&sheet, 2, 1, 3), Ok(2 * 18_683));
+    }
+
+    #[test]
+    fn motors_that_age_at_the_limit_of_check_8() {
+        let sheet = steady_motors_sheet();
+        for (start, end) in [(0, 1), (1, 2), (119, 239), (180, 300), (299, 300)] {
+            let cost = (end - start) * 10_000_000_000_000;
+            assert_eq!(cost_on(&sheet, 1, start, end), Ok(cost));
+        }
+        // A plain step takes a fifth away.
+        assert_eq!(cost_on(&sheet, 2, 1, 2), Ok(8_000_000_000_000));
     }
 
     #[test]

@@ -1,9 +1,10 @@
-//! The exact value of a chain, and how far from it a total may lie, written from documents 01 and
-//! 02 alone: the payments of its arcs, each moved by the products and quotients of its steps as a
-//! fraction, without rounding. Fractions of year y are over 10^(6y) × (10^6 + r)^y, so the value is
-//! over 10^(6T) × (10^6 + r)^T.
+//! The exact value of an arc and of a chain, and how far from it a cost or a total may lie, written
+//! from documents 01 and 02 alone: the payments, each moved by the products and quotients of its
+//! steps as a fraction, without rounding. Fractions of year y are over 10^(6y) × (10^6 + r)^y, so
+//! the value of a chain is over 10^(6T) × (10^6 + r)^T.
 
 use crate::check::checked;
+use crate::cost::Arc;
 use crate::natural::Natural;
 use crate::plan::{read, Chain};
 use crate::report::hex;
@@ -11,6 +12,7 @@ use crate::sheet::{Flow, Record, Sheet, OPTIONS};
 
 const UNITS: u64 = 10_000;
 const MILLION: u64 = 1_000_000;
+const RENOVATE: usize = 1;
 
 /// An error if document 02 does not allow the total that is printed for an accepted plan.
 pub fn judge_total(sheet: &[u8], plan: &[u8], total: u64) -> Result<(), String> {
@@ -26,13 +28,26 @@ pub fn judge_total(sheet: &[u8], plan: &[u8], total: u64) -> Result<(), String> 
     }
 }
 
+/// The same of the cost that is answered for an accepted arc of length 1 or more.
+pub fn judge_cost(sheet: &[u8], arc: Arc, cost: u64) -> Result<(), String> {
+    let read_sheet = checked(sheet).expect("an accepted sheet");
+    match Exact::of_arc(&read_sheet, arc).fault(cost) {
+        None => Ok(()),
+        Some(fault) => Err(format!(
+            "the cost {cost} of {arc:?} {fault}: {}",
+            hex(sheet)
+        )),
+    }
+}
+
 /// What a comparison says of so many totals that it judged.
 pub fn totals_judged(count: u64) -> String {
     format!("all {count} totals, up to T 300, from 0 to (5T² + 3T)/2 units above their exact value")
 }
 
 pub struct Exact {
-    horizon: u64,
+    /// The years in which the arc or the chain starts and ends.
+    years: [u64; 2],
     numerator: Natural,
     denominator: Natural,
 }
@@ -46,36 +61,44 @@ impl Exact {
                 walk.keep(option, end - start);
             }
         }
-        Exact {
-            horizon: sheet.horizon as u64,
-            numerator: walk.value,
-            denominator: walk.denominator,
-        }
+        walk.from(0, sheet.horizon as u64)
     }
 
-    /// What is wrong with a printed total: by document 02 it is never below the exact value, and
-    /// at most (5T² + 3T)/2 units above it.
-    fn fault(&self, total: u64) -> Option<&'static str> {
-        let printed = self.denominator.times(2 * total);
+    /// The arc is without fault, and of length 1 or more.
+    fn of_arc(sheet: &Sheet, arc: Arc) -> Exact {
+        let mut walk = Walk::on(sheet);
+        let option = arc.option as usize;
+        for _ in 0..arc.start {
+            walk.next_year(option);
+        }
+        walk.keep(option, (arc.end - arc.start) as i64);
+        walk.from(arc.start, arc.end)
+    }
+
+    /// What is wrong with a figure that is printed: by document 02 it is never below the exact
+    /// value, and not more than the allowance above it.
+    fn fault(&self, figure: u64) -> Option<&'static str> {
+        let printed = self.denominator.times(2 * figure);
         if printed < self.numerator.times(2) {
             Some("is below the exact value")
         } else if printed > self.doubled_with_allowance() {
-            Some("is more than (5T² + 3T)/2 units above the exact value")
+            Some("is above the exact value by more than the allowance")
         } else {
             None
         }
     }
 
-    /// Whether another chain of the sheet is more than (5T² + 3T)/2 units below this one.
+    /// Whether another chain of the sheet is more than the allowance below this one.
     pub fn is_far_above(&self, other: &Exact) -> bool {
         self.numerator.times(2) > other.doubled_with_allowance()
     }
 
-    /// Twice the numerator of the value and (5T² + 3T)/2 units.
+    /// Twice the numerator of the value and the allowance: (5u² + 3u − 5t² − 3t)/2 units from year
+    /// t to u, so (5T² + 3T)/2 for a chain.
     fn doubled_with_allowance(&self) -> Natural {
-        let allowance = 5 * self.horizon * self.horizon + 3 * self.horizon;
+        let [start, end] = self.years.map(|year| 5 * year * year + 3 * year);
         let mut sum = self.numerator.times(2);
-        sum.add_times(&self.denominator, allowance);
+        sum.add_times(&self.denominator, end - start);
         sum
     }
 }
@@ -100,12 +123,17 @@ impl Moving {
         }
     }
 
-    /// From an amount after plain steps, in service: × (10^6 + g) / 10^6 × (10^6 + f) / (10^6 + r).
-    fn in_service(flow: &Flow, plain: &Moving) -> Moving {
+    /// From a numerator, in service: × (10^6 + g) / 10^6 × (10^6 + f) / (10^6 + r).
+    fn in_service(flow: &Flow, numerator: Natural) -> Moving {
         Moving {
-            numerator: plain.numerator.times(units(flow.amount)),
+            numerator,
             each_year: factor(flow.ageing) * factor(flow.inflation),
         }
+    }
+
+    /// A flow that is in service from now on; the numerator is that of 1.
+    fn from_now(flow: &Flow, before: &Moving) -> Moving {
+        Moving::in_service(flow, before.numerator.times(units(flow.amount)))
     }
 
     fn next_year(&mut self) {
@@ -117,20 +145,26 @@ fn units(amount: i64) -> u64 {
     amount as u64 * UNITS
 }
 
-/// What 1 of each payment of an option becomes by plain steps alone.
-struct Plain {
+/// What 1 of each payment of an option becomes up to the year in which the option starts, and up to
+/// that of an overhaul: by plain steps. But electricity of renovate takes in-service steps from
+/// year 0, as renovating renews the building, while the motors go on ageing.
+struct Before {
     investment: Moving,
     maintenance: Moving,
     electricity: Moving,
     overhaul: Moving,
 }
 
-impl Plain {
-    fn of(record: &Record) -> Plain {
-        Plain {
+impl Before {
+    fn of(option: usize, record: &Record) -> Before {
+        let electricity = &record.electricity;
+        Before {
             investment: Moving::plainly(record.investment_inflation),
             maintenance: Moving::plainly(record.maintenance.inflation),
-            electricity: Moving::plainly(record.electricity.inflation),
+            electricity: match option {
+                RENOVATE => Moving::in_service(electricity, Natural::one()),
+                _ => Moving::plainly(electricity.inflation),
+            },
             overhaul: Moving::plainly(record.overhaul_inflation),
         }
     }
@@ -146,7 +180,7 @@ impl Plain {
 /// The value of the arcs up to the year that is reached.
 struct Walk<'a> {
     records: &'a [Record; OPTIONS],
-    plain: [Plain; OPTIONS],
+    before: [Before; OPTIONS],
     value: Natural,
     denominator: Natural,
     /// 10^6 × (10^6 + r).
@@ -157,21 +191,29 @@ impl Walk<'_> {
     fn on(sheet: &Sheet) -> Walk<'_> {
         Walk {
             records: &sheet.records,
-            plain: [0, 1, 2].map(|option| Plain::of(&sheet.records[option])),
+            before: [0, 1, 2].map(|option| Before::of(option, &sheet.records[option])),
             value: Natural::zero(),
             denominator: Natural::one(),
             each_year: MILLION * factor(sheet.rate),
         }
     }
 
+    fn from(self, start: u64, end: u64) -> Exact {
+        Exact {
+            years: [start, end],
+            numerator: self.value,
+            denominator: self.denominator,
+        }
+    }
+
     /// Keeps an option for some years, 1 or more.
     fn keep(&mut self, option: usize, length: i64) {
         let record = &self.records[option];
-        let plain = &self.plain[option];
-        let mut maintenance = Moving::in_service(&record.maintenance, &plain.maintenance);
-        let mut electricity = Moving::in_service(&record.electricity, &plain.electricity);
+        let before = &self.before[option];
+        let mut maintenance = Moving::from_now(&record.maintenance, &before.maintenance);
+        let mut electricity = Moving::from_now(&record.electricity, &before.electricity);
         self.value
-            .add_times(&plain.investment.numerator, units(record.investment));
+            .add_times(&before.investment.numerator, units(record.investment));
         for age in 1..=length {
             self.next_year(option);
             for flow in [&mut maintenance, &mut electricity] {
@@ -188,15 +230,15 @@ impl Walk<'_> {
     fn next_year(&mut self, option: usize) {
         self.value.multiply(self.each_year);
         self.denominator.multiply(self.each_year);
-        self.plain[option..].iter_mut().for_each(Plain::next_year);
+        self.before[option..].iter_mut().for_each(Before::next_year);
     }
 
     fn overhaul(&mut self, option: usize, age: i64) {
         let record = &self.records[option];
         let used = &record.overhauls[..record.overhaul_count as usize];
         if let Some(due) = used.iter().find(|overhaul| overhaul.age == age) {
-            let plain = &self.plain[option].overhaul;
-            self.value.add_times(&plain.numerator, units(due.amount));
+            let before = &self.before[option].overhaul;
+            self.value.add_times(&before.numerator, units(due.amount));
         }
     }
 }
@@ -204,7 +246,7 @@ impl Walk<'_> {
 #[cfg(test)]
 mod tests {
     use super::*;
-    use crate::cases::{case_12, paper_sheet};
+    use crate::cases::{case_12, paper_sheet, same_motors_sheet};
     use crate::check::checked;
     use crate::sheet::*;
 
@@ -265,6 +307,44 @@ mod tests {
         }
     }
 
+    // Renovated in year 1, electricity has been in service for two years, maintenance for one.
+    #[test]
+    fn a_renovation_with_old_motors() {
+        let mut sheet = two_years(&[0, 1, 2]);
+        for option in 0..OPTIONS {
+            write(&mut sheet, of_option(option, ELECTRICITY_AGEING), 20_000);
+        }
+        let million: u128 = 1_000_000;
+        let year = million * 1_040_000;
+        let [maintained, lit] = [1_015_000 * 1_008_500, 1_020_000 * 998_000];
+        let renewed = 7 * (year * year + million * 1_010_300 * year)
+            + 5 * (maintained * year + million * 1_008_500 * maintained);
+        let old_motors = 3 * (lit * year + lit * lit);
+        let new_motors = 3 * (lit * year + million * 998_000 * lit);
+        for (i, j, ends, motors) in [
+            (1, 2, &[][..], old_motors),
+            (1, 1, &[2], new_motors),
+            (0, 1, &[2], new_motors),
+            (0, 0, &[1, 2], new_motors),
+        ] {
+            let value = exact(&sheet, i, j, ends);
+            assert_eq!(value.numerator, (10_000 * (renewed + motors)).into());
+        }
+    }
+
+    // Electricity of 1 in year 2 is 10,000 × 1.02² / 1.04² = 9,619.08 units with old motors, and
+    // 10,000 × 1.02 / 1.04² = 9,430.47 with new ones. (5 × 2² + 3 × 2 − 5 − 3)/2 is 9.
+    #[test]
+    fn the_limits_of_a_cost() {
+        for (option, least, most) in [(1, 9_620, 9_628), (2, 9_431, 9_439)] {
+            let (start, end) = (1, 2);
+            let arc = Arc { option, start, end };
+            let judge = |cost| judge_cost(&same_motors_sheet(), arc, cost).is_ok();
+            assert!(!judge(least - 1) && judge(least));
+            assert!(judge(most) && !judge(most + 1));
+        }
+    }
+
     // Nothing is rounded: the total is the exact value. (5 × 4² + 3 × 4)/2 is 46.
     #[test]
     fn the_limits_of_a_total() {
@@ -272,7 +352,7 @@ mod tests {
         assert_eq!(value.fault(239_999), Some("is below the exact value"));
         assert_eq!(value.fault(240_000), None);
         assert_eq!(value.fault(240_046), None);
-        let above = "is more than (5T² + 3T)/2 units above the exact value";
+        let above = "is above the exact value by more than the allowance";
         assert_eq!(value.fault(240_047), Some(above));
     }
 

@@ -33,6 +33,7 @@ mod listing;
 mod lists;
 mod natural;
 mod noisy;
+mod old_motors;
 mod parts;
 mod plan;
 mod planner;

@@ -52,10 +52,21 @@ pub fn planned(sheet: &Sheet) -> Planned {
     let onward: Vec<Vec<usize>> = (0..=horizon)
         .map(|year| ends_on_a_least_way(&replacements, &tails, year))
         .collect();
+    let beginnings = beginnings(sheet, &ArcCosts::of(sheet, 1), &tails);
     Planned {
-        choice: choice(&beginnings(sheet, &tails), &onward),
+        choice: choice(&beginnings, &onward),
         tails,
     }
+}
+
+/// i and j of the chain that would be planned if renovations had these costs.
+pub fn beginning_with(
+    sheet: &Sheet,
+    renovations: &ArcCosts,
+    tails: &[Option<u64>],
+) -> Option<(i64, i64)> {
+    let list = beginnings(sheet, renovations, tails);
+    best(&list).map(|best| (best.i as i64, best.j as i64))
 }
 
 /// The least total of replacements from a year to the last one there is.
@@ -93,11 +104,10 @@ struct Beginning {
     total: u64,
 }
 
-fn beginnings(sheet: &Sheet, tails: &[Option<u64>]) -> Vec<Beginning> {
-    let renovated = ArcCosts::of(sheet, 1);
+fn beginnings(sheet: &Sheet, renovations: &ArcCosts, tails: &[Option<u64>]) -> Vec<Beginning> {
     let mut list = Vec::new();
     for (i, maintain) in with_length_0(0, ArcCosts::of(sheet, 0).from(0)) {
-        for (j, renovate) in with_length_0(i, renovated.from(i)) {
+        for (j, renovate) in with_length_0(i, renovations.from(i)) {
             if let Some(replace) = tails[j] {
                 let total = maintain + renovate + replace;
                 list.push(Beginning { i, j, total });
@@ -113,9 +123,14 @@ fn with_length_0(start: usize, arcs: Arcs) -> Arcs {
     list
 }
 
-fn choice(beginnings: &[Beginning], onward: &[Vec<usize>]) -> Option<Choice> {
+/// Of the least total, the one with the largest i, then the largest j.
+fn best(beginnings: &[Beginning]) -> Option<&Beginning> {
     let order = |at: &&Beginning| (at.total, Reverse(at.i), Reverse(at.j));
-    let best = beginnings.iter().min_by_key(order)?;
+    beginnings.iter().min_by_key(order)
+}
+
+fn choice(beginnings: &[Beginning], onward: &[Vec<usize>]) -> Option<Choice> {
+    let best = best(beginnings)?;
     let least = || beginnings.iter().filter(|other| other.total == best.total);
     let mut ends = Vec::new();
     let mut of_ends = false;
@@ -145,6 +160,7 @@ mod tests {
     use super::*;
     use crate::cases::*;
     use crate::check::checked;
+    use crate::old_motors::costs_with_new;
     use crate::sheet::*;
 
     fn planned_on(sheet: &[u8]) -> Planned {
@@ -189,6 +205,29 @@ mod tests {
             &[60, 120, 180, 240, 300],
             38_979_215_559,
         );
+    }
+
+    // A chain that renovates in year 1 costs 28,865; with new motors it would cost 28,490, and this
+    // one 28,495.
+    #[test]
+    fn old_motors_put_a_renovation_off() {
+        let ties = assert_chain(&postponed_sheet(), 2, 3, &[], 28_862);
+        assert!(!ties.any());
+        assert_eq!(beginning_with_new_motors(&postponed_sheet()), (1, 3));
+    }
+
+    // Renovating in year 1 costs 9,621; with new motors it would cost 9,432.
+    #[test]
+    fn old_motors_are_replaced() {
+        let ties = assert_chain(&replaced_sheet(), 1, 1, &[2], 9_525);
+        assert!(!ties.any());
+        assert_eq!(beginning_with_new_motors(&replaced_sheet()), (1, 2));
+    }
+
+    fn beginning_with_new_motors(bytes: &[u8]) -> (i64, i64) {
+        let sheet = checked(bytes).expect("a sheet");
+        let tails = planned(&sheet).tails;
+        beginning_with(&sheet, &costs_with_new(&sheet), &tails).expect("a chain")
     }
 
     /// T 7, all amounts 0: maintain for 1 to 3 years, renovate for 2, replace for 1 to 2.

@@ -42,12 +42,16 @@ pub fn brief_sheet(random: &mut Random) -> Vec<u8> {
 
 fn shorten_lives(random: &mut Random, sheet: &mut [u8]) {
     for option in 0..OPTIONS {
-        let shortest = random.within(1, 4);
-        let longest = shortest + random.within(0, 6);
-        let offered = i64::from(random.below(4) > 0);
-        write(sheet, of_option(option, SHORTEST), offered * shortest);
-        write(sheet, of_option(option, LONGEST), offered * longest);
+        shorten_life(random, sheet, option);
     }
+}
+
+fn shorten_life(random: &mut Random, sheet: &mut [u8], option: usize) {
+    let shortest = random.within(1, 4);
+    let longest = shortest + random.within(0, 6);
+    let offered = i64::from(random.below(4) > 0);
+    write(sheet, of_option(option, SHORTEST), offered * shortest);
+    write(sheet, of_option(option, LONGEST), offered * longest);
 }
 
 /// A horizon of 120 to 300 years.
@@ -98,6 +102,55 @@ pub fn steep_sheet(random: &mut Random) -> Vec<u8> {
         }
     }
     sheet
+}
+
+/// A sheet of up to 40 years, whose renovations keep motors that age fast.
+pub fn motors_sheet(random: &mut Random) -> Vec<u8> {
+    let mut sheet = [small_sheet, chained_sheet][random.below(2)](random);
+    age_motors(random, &mut sheet);
+    sheet
+}
+
+/// The same with a horizon of up to 8 years.
+pub fn brief_motors_sheet(random: &mut Random) -> Vec<u8> {
+    let mut sheet = brief_sheet(random);
+    age_motors(random, &mut sheet);
+    sheet
+}
+
+/// The same with every length to 120, T 300.
+pub fn corner_motors_sheet(random: &mut Random) -> Vec<u8> {
+    let mut sheet = corner_sheet(random);
+    age_motors(random, &mut sheet);
+    sheet
+}
+
+/// The same, but with short lives of replacements.
+pub fn frequent_motors_sheet(random: &mut Random) -> Vec<u8> {
+    let mut sheet = corner_motors_sheet(random);
+    shorten_life(random, &mut sheet, 2);
+    sheet
+}
+
+/// Electricity of renovate ages as fast as check 8 allows, or a millionth less. An inflation of 0
+/// leaves an ageing of r, with which the limit is met; r − 2 is the highest that leaves one.
+fn age_motors(random: &mut Random, sheet: &mut [u8]) {
+    let rate = unsigned(sheet, RATE);
+    let grows = match random.below(4) {
+        0 => 0,
+        _ => random.near_an_end(-100_000, rate),
+    };
+    let grows = grows.min(rate - 2);
+    let most = largest_partner(rate, grows).min(300_000);
+    let ages = random.within(most - 1, most).max(1);
+    let amount = random.near_an_end(1, 1_000_000_000);
+    for (inner, value) in [
+        (ELECTRICITY, amount),
+        (ELECTRICITY_INFLATION, grows),
+        (ELECTRICITY_AGEING, ages),
+    ] {
+        write(sheet, of_option(1, inner), value);
+    }
 }
 
 /// Every rate of an option.
@@ -187,6 +240,10 @@ mod tests {
             corner_sheet,
             frequent_sheet,
             steep_sheet,
+            motors_sheet,
+            brief_motors_sheet,
+            corner_motors_sheet,
+            frequent_motors_sheet,
         ];
         for make in all {
             for _ in 0..1_000 {
@@ -196,6 +253,23 @@ mod tests {
                 assert_eq!(check(&sheet).number, 0);
             }
         }
+    }
+
+    #[test]
+    fn motors_age_as_fast_as_the_checks_allow() {
+        let mut random = Random(10);
+        let mut met = 0;
+        for _ in 0..1_000 {
+            let mut sheet = corner_motors_sheet(&mut random);
+            let [grows, ages] = [ELECTRICITY_INFLATION, ELECTRICITY_AGEING]
+                .map(|inner| signed(&sheet, of_option(1, inner)));
+            assert!(ages > 0);
+            let product = (1_000_000 + grows) * (1_000_000 + ages);
+            met += usize::from(product == 1_000_000 * (1_000_000 + unsigned(&sheet, RATE)));
+            write(&mut sheet, of_option(1, ELECTRICITY_AGEING), ages + 2);
+            assert_eq!(check(&sheet).packed(), 8 * 4 + 1);
+        }
+        assert!(met > 30);
     }
 
     /// The values that a field gets in many corner sheets.

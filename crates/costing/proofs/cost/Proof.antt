@@ -54,15 +54,16 @@ found c = offered-iff _ _ _ _ .0 (sym (tested (c .before)) ∙ not-false _ (c .i
 -- and the option that is kept is the arc's
 made :
     (c : tie.After-kept-on) →
-    let a = c .before .before .before .before .before .before .before .before .before .before .before .args in
+    let a = c .before .before .before .before .before .before .before .before .before .before .before .before .args in
     c .kept-on .result ≡ arcOf (sheetOf (a .sheet .now)) (a .option) (a .start) (a .end) .kept
 made c =
-    let d = c .before .before in
+    let d = c .before .before .before in
     let terms = d .before .before .before in
     let a = terms .before .before .before .before .before .before .args in
     let known : terms .before .smaller .result ≡ a .option = omega (arith, terms .before .smaller .ensures, found d .known) in
     c .kept-on .ensures
-    ∙ kept-made _ _ _ _ (terms .terms-of .ensures ∙ ap (λ (k : ℕ). termsOf (sheetOf (a .sheet .now) .option k)) known) (c .before .discount-of .ensures)
+    ∙ kept-made _ _ _ _ (terms .terms-of .ensures ∙ ap (λ (k : ℕ). termsOf (sheetOf (a .sheet .now) .option k)) known)
+    (c .before .before .discount-of .ensures) (c .before .since-of .ensures)
 
 smaller-requires : tie.Need-smaller-requires
 smaller-requires c κs = search needs
@@ -89,21 +90,24 @@ returns-2 c =
 discount-of-requires : tie.Need-discount-of-requires
 discount-of-requires c κs = passes (c .before .before .before .before .before) .header .long
 
+since-of-requires : tie.Need-since-of-requires
+since-of-requires c κs = search needs
+
 kept-on-requires : tie.Need-kept-on-requires
 kept-on-requires c κs = search needs
 
 of-requires : tie.Need-of-requires
 of-requires c κs =
-    let rate = passes (c .before .before .before .before .before .before .before) .header .rate in
-    (omega (arith, c .before .discount-of .ensures), omega (arith, c .before .discount-of .ensures))
+    let rate = passes (c .before .before .before .before .before .before .before .before) .header .rate in
+    (omega (arith, c .before .before .discount-of .ensures), omega (arith, c .before .before .discount-of .ensures))
 
 sub-cost : tie.Need-sub-cost
-sub-cost c = found (c .before .before .before) .forward
+sub-cost c = found (c .before .before .before .before) .forward
 
 cost-requires : tie.Need-cost-requires
 cost-requires c κs =
     let k = c .before in
-    let e = k .before .before in
+    let e = k .before .before .before in
     let h = passes (e .before .before .before .before .before) in
     let o = found e in
     let d = c .of .ensures in
@@ -122,7 +126,7 @@ accepted-requires c κs = search needs
 returns-3 : tie.Need-returns-3
 returns-3 c =
     let k = c .before .before .before in
-    let e = k .before .before in
+    let e = k .before .before .before in
     let units = c .before .cost .ensures ∙ cost-paid _ _ _ _ _ (made k) in
     cost-answers _ _ _ _ _
     (c .accepted .ensures
@@ -142,6 +146,7 @@ cost-spec =
     refused-requires
     returns-2
     discount-of-requires
+    since-of-requires
     kept-on-requires
     of-requires
     sub-cost

@@ -7,35 +7,39 @@ use Rattle.checking.specs.Fit.{FlowFits}
 use Rattle.division.specs.Division.{DivisorReady}
 use Rattle.steps.specs.Fit.{PlainFits}
 use Rattle.steps.proofs.RoomLaws.{amount-fits}
-use Rattle.streams.specs.Streams.{part}
+use Rattle.costing.specs.Arc.{sinceOf}
+use Rattle.streams.specs.Streams.{onceIn, startIn, part}
 use Rattle.streams.proofs.FillLaws.{left-through, stream-stays}
 use Rattle.streams.proofs.fill.Statement.{statement}
 use Rattle.streams.proofs.fill.Tie as tie
 
 returns : tie.Need-returns
 returns c =
-    let s = c .before .before .before .before .before .before .before .before .before .before .before .before .before .before .before .before .before .before .before .before in
+    let s = c .before .before .before .before .before .before .before .before .before .before .before .before .before .before .before .before .before .before .before in
     let d = s .args .discount .by in
     let t = s .args .terms in
     let last = s .args .last in
     let first = c .before .before .before .before .before .before .before .before .before .before .before .before .before .before .stream in
     let second = c .before .before .before .before .before .before .before .before .before .before .stream2 in
-    let third = c .before .before .before .before .before .before .stream3 in
+    let third = c .before .before .before .before .before .before .electricity in
     let all = c .before .before .overhauls in
     let a = first .last .0 in
     let b = second .last .0 in
     let e = all .last .0 in
-    let later = left-through b (third .last .0) e (part 2) (part 3) (omega arith) (third .ensures .left) (all .ensures .left) in
+    let f = third .last .0 in
+    let later = left-through b f e (part 2) (part 3) (omega arith) (third .ensures .left) (all .ensures .left) in
     let latest = left-through a b e (part 1) (part 2) (omega arith) (second .ensures .left) later in
-    record {
-      room = omega (arith, first .kept .0, second .kept .0, third .kept .0, all .kept .0);
-      investment = stream-stays (part 0) (part 1) d (t .investment .amount) (t .investment .grow) last a e (omega arith) latest (first .ensures .stream);
-      maintenance = stream-stays (part 1) (part 2) d (t .maintenance .amount) (t .maintenance .grow) last b e (omega arith) later (second .ensures .stream);
-      electricity =
-          stream-stays (part 2) (part 3) d (t .electricity .amount) (t .electricity .grow) last (third .last .0) e (omega arith)
-          (all .ensures .left) (third .ensures .stream);
-      overhauls = all .ensures .streams;
-    }
+    let i = t .investment in
+    let m = t .maintenance in (
+      record {
+        room = omega (arith, first .kept .0, second .kept .0, third .kept .0, all .kept .0);
+        investment = stream-stays (part 0) (part 1) (onceIn d (i .amount) (i .grow)) last a e (omega arith) latest (first .ensures .stream);
+        maintenance = stream-stays (part 1) (part 2) (onceIn d (m .amount) (m .grow)) last b e (omega arith) later (second .ensures .stream);
+        overhauls = all .ensures .streams;
+      },
+      stream-stays (part 2) (part 3) (startIn d (t .electricity) (sinceOf (s .args .option))) last f e (omega arith) (all .ensures .left)
+          (third .ensures .stream),
+    )
 
 -- what filling the stream of a flow asks
 flow-asks :
@@ -45,28 +49,30 @@ flow-asks s w h = let d = s .pre .0 in (amount-fits _ _ _ (d .1) (d .2) (h .grow
 
 stream-requires : tie.Need-stream-requires
 stream-requires c κs =
-    let s = c .before .before .before .before .before in
+    let s = c .before .before .before .before in
     (flow-asks s (s .args .terms .investment) (s .pre .1 .0 .investment), search needs)
 
 stream-requires-2 : tie.Need-stream-requires-2
 stream-requires-2 c κs =
-    let s = c .before .before .before .before .before .before .before .before .before in
+    let s = c .before .before .before .before .before .before .before .before in
     (flow-asks s (s .args .terms .maintenance) (s .pre .1 .0 .maintenance), search needs)
 
-mul-stream : tie.Need-mul-stream
-mul-stream c = search needs
-
-stream-requires-3 : tie.Need-stream-requires-3
-stream-requires-3 c κs =
-    let s = c .before .before .before .before .before .before .before .before .before .before .before .before .before in
-    (flow-asks s (s .args .terms .electricity) (s .pre .1 .0 .electricity), search needs)
+electricity-requires : tie.Need-electricity-requires
+electricity-requires c κs =
+    let s = c .before .before .before .before .before .before .before .before .before .before .before .before in
+    let d = s .pre .0 in
+    let first = c .before .before .before .before .before .before .before .stream in
+    let second = c .before .before .before .stream2 in (
+      record { ready = d .0; low = d .1; high = d .2; fits = s .pre .1 .0 .electricity },
+      (s .pre .1 .1 .0, omega (arith, first .kept .0, second .kept .0)),
+    )
 
 overhauls-requires : tie.Need-overhauls-requires
 overhauls-requires c κs =
-    let s = c .before .before .before .before .before .before .before .before .before .before .before .before .before .before .before .before .before in
+    let s = c .before .before .before .before .before .before .before .before .before .before .before .before .before .before .before .before in
     let first = c .before .before .before .before .before .before .before .before .before .before .before .stream in
     let second = c .before .before .before .before .before .before .before .stream2 in
-    let third = c .before .before .before .stream3 in
+    let third = c .before .before .before .electricity in
     (s .pre .0, (s .pre .1 .0 .overhauls, (s .pre .1 .1 .0, omega (arith, first .kept .0, second .kept .0, third .kept .0))))
 
 same-length : tie.Need-same-length
@@ -78,8 +84,7 @@ fill-spec =
     (tie.spec
     stream-requires
     stream-requires-2
-    mul-stream
-    stream-requires-3
+    electricity-requires
     overhauls-requires
     same-length
     returns)

@@ -11,51 +11,30 @@ use Rattle.streams.proofs.open.Tie as tie
 
 returns : tie.Need-returns
 returns c =
-    let s = c .before .before .before in
+    let s = c .before .before in
     let from = s .args .kept .from in
-    let streams = s .pre .0 in
+    let h = s .pre .0 in
+    let streams = h .0 in
     walk-zero (s .args .kept) refl
-    (ap (λ (k : ℕ). getD (now (s .args .streams)) k 0) (sym (zero-add from)) ∙ streams .investment from (s .pre .1))
-    (streams .maintenance from (s .pre .1)) (streams .electricity from (s .pre .1))
+    (ap (λ (k : ℕ). getD (now (s .args .streams)) k 0) (sym (zero-add from)) ∙ streams .investment from (h .1))
+    (streams .maintenance from (h .1)) (s .pre .1)
 
-mul-t5 : tie.Need-mul-t5
-mul-t5 c = search needs
+mul-t6 : tie.Need-mul-t6
+mul-t6 c = search needs
 
-shared-slice-read-t7 : tie.Need-shared-slice-read-t7
-shared-slice-read-t7 c = search needs
+shared-slice-read-t8 : tie.Need-shared-slice-read-t8
+shared-slice-read-t8 c = search needs
 
-add-t9 : tie.Need-add-t9
-add-t9 c = search needs
+add-t10 : tie.Need-add-t10
+add-t10 c = search needs
 
-mul-t10 : tie.Need-mul-t10
-mul-t10 c = search needs
+mul-t11 : tie.Need-mul-t11
+mul-t11 c = search needs
 
-shared-slice-read-t12 : tie.Need-shared-slice-read-t12
-shared-slice-read-t12 c = search needs
-
-mul-t14 : tie.Need-mul-t14
-mul-t14 c = search needs
-
-add-t15 : tie.Need-add-t15
-add-t15 c = search needs
-
-mul-t16 : tie.Need-mul-t16
-mul-t16 c = search needs
-
-shared-slice-read-t18 : tie.Need-shared-slice-read-t18
-shared-slice-read-t18 c = search needs
+shared-slice-read-t13 : tie.Need-shared-slice-read-t13
+shared-slice-read-t13 c = search needs
 
 pub open-spec : {M : Type 1} → statement M
 open-spec =
     tie.close
-    (tie.spec
-    mul-t5
-    shared-slice-read-t7
-    add-t9
-    mul-t10
-    shared-slice-read-t12
-    mul-t14
-    add-t15
-    mul-t16
-    shared-slice-read-t18
-    returns)
+    (tie.spec mul-t6 shared-slice-read-t8 add-t10 mul-t11 shared-slice-read-t13 returns)

@@ -27,14 +27,14 @@ abbrev μ-loop : tie.MeasureT-loop
 μ-loop words streams ages kept discount horizon from shortest top chosen₀ walk₀ next₀ n₀ chosen walk next n = top - n
 
 abbrev start : tie.At-loop Inv-loop μ-loop → tie.Start Inv-loop μ-loop
-start c = c .before .before .before .before .before .before
+start c = c .before .before .before .before .before .before .before
 
 -- while the loop goes on, one year more is within the longest life and the horizon
 lives : (c : tie.In-loop Inv-loop μ-loop) → c .before .loop .n < start (c .before) .args .kept .terms .longest
-lives c = omega (arith, c .before .before .before .smaller .ensures, c .loop-test .taken)
+lives c = omega (arith, c .before .before .before .before .smaller .ensures, c .loop-test .taken)
 
 inside : (c : tie.In-loop Inv-loop μ-loop) → start (c .before) .args .kept .from + (c .before .loop .n + 1) ≤ start (c .before) .args .horizon
-inside c = omega (arith, c .before .before .before .smaller .ensures, c .loop-test .taken)
+inside c = omega (arith, c .before .before .before .before .smaller .ensures, c .loop-test .taken)
 
 short : (s : tie.Start Inv-loop μ-loop) → s .args .horizon ≤ 300
 short s = s .pre .1 .far
@@ -61,7 +61,7 @@ returns c =
     let s = start (c .before) in
     c .before .loop .inv .3
     ∙ ends-all (s .args .kept) (wordOf (now (s .args .words))) (s .args .best) (s .args .horizon) (c .before .loop .n)
-    (omega (arith, c .before .before .before .smaller .ensures, c .loop-test .left, c .before .loop .inv .0)) (s .pre .1 .early)
+    (omega (arith, c .before .before .before .before .smaller .ensures, c .loop-test .left, c .before .loop .inv .0)) (s .pre .1 .early)
 
 loop-holds : tie.Need-loop-holds Inv-loop μ-loop
 loop-holds c = (omega arith, c .«open» .ensures, falls-zero _, sym (over-zero numbers _ _ _ _ _))
@@ -72,13 +72,19 @@ sub-smaller c = c .before .before .before .pre .1 .early
 smaller-requires : tie.Need-smaller-requires Inv-loop μ-loop
 smaller-requires c κs = tt
 
+power-requires : tie.Need-power-requires Inv-loop μ-loop
+power-requires c κs =
+    let s = c .before .before .before .before in
+    (s .pre .0 .power, omega (arith, s .pre .1 .early, short s), s .pre .0 .paid .room)
+
 open-requires : tie.Need-open-requires Inv-loop μ-loop
-open-requires c κs = let s = c .before .before .before .before in (s .pre .0 .1, s .pre .1 .early, short s)
+open-requires c κs =
+    let s = c .before .before .before .before .before in ((s .pre .0 .paid, s .pre .1 .early, short s), c .power .ensures)
 
 due-requires : tie.Need-due-requires Inv-loop μ-loop
 due-requires c κs =
     let s = start (c .before) in
-    ((s .pre .0 .0 .steps .fits, s .pre .0 .0 .ages, c .before .loop .inv .2), (s .pre .0 .1, omega (arith, inside c), short s))
+    ((s .pre .0 .steps .fits, s .pre .0 .ages, c .before .loop .inv .2), (s .pre .0 .paid, omega (arith, inside c), short s))
 
 year-requires : tie.Need-year-requires Inv-loop μ-loop
 year-requires c κs =
@@ -88,7 +94,7 @@ year-requires c κs =
     let years = walk-years kept (loop .walk) (loop .n) (loop .inv .1) in
     let due : ℕ → ℕ = λ n. worth kept (overhaulsAt kept n) in
     let stands = walk-stands kept (loop .walk) (loop .n) (loop .inv .1) in (
-      (s .pre .0 .0 .steps, omega (arith, years, inside (c .before), short s)),
+      (s .pre .0 .steps, omega (arith, years, inside (c .before), short s)),
       (stands, c .due .ensures .0 ∙ ap due (sym years)),
     )
 
@@ -115,7 +121,7 @@ weigh-requires c κs some =
     let years = walk-years kept (loop .walk) (loop .n) (loop .inv .1) in
     let walks = c .before .year .ensures ∙ ap (λ (n : ℕ). walkAt kept (n + 1)) years in
     let room =
-    end-room kept (s .pre .0 .0 .steps .fits) (s .args .horizon) end (short s) (omega arith) (inside d)
+    end-room kept (s .pre .0 .steps .fits) (s .args .horizon) end (short s) (omega arith) (inside d)
     (s .pre .1 .fits end (omega arith) (inside d) some) in
     omega (arith, end-paid kept _ (loop .n) walks, room, short s)
 
@@ -130,6 +136,7 @@ best-end-spec =
     μ-loop
     sub-smaller
     smaller-requires
+    power-requires
     open-requires
     loop-holds
     due-requires

@@ -22,7 +22,7 @@ in-service-requires c κs =
     let h = s .pre .0 .0 .fits in
     let d = s .pre .0 .0 .divides in (
       rw (d .number, ap (λ (w : Walk). w .maintenance .0) (s .pre .1 .0) ∙ walkAt-maintenance _ _)
-          (inYear-fits _ _ _ _ (h .low) (h .high) (h .terms .maintenance) (omega arith)),
+          (inYear-fits _ _ _ _ _ (h .low) (h .high) (h .terms .maintenance) (h .from) (omega arith)),
       d .ready,
     )
 
@@ -32,7 +32,7 @@ in-service-requires-2 c κs =
     let h = s .pre .0 .0 .fits in
     let d = s .pre .0 .0 .divides in (
       rw (d .number, ap (λ (w : Walk). w .electricity .0) (s .pre .1 .0) ∙ walkAt-electricity _ _)
-          (inYear-fits _ _ _ _ (h .low) (h .high) (h .terms .electricity) (omega arith)),
+          (inYear-fits _ _ _ _ _ (h .low) (h .high) (h .terms .electricity) (h .from) (omega arith)),
       d .ready,
     )
 

@@ -73,6 +73,7 @@ add-flow-requires c κs =
             (o .add-overhauls .kept .0 ∙ w .add-once .kept .0);
       },
       passes s (k .terms .maintenance) (h .fits .terms .maintenance),
+      omega arith,
     )
 
 add-flow-requires-2 : tie.Need-add-flow-requires-2
@@ -90,6 +91,7 @@ add-flow-requires-2 c κs =
             (m .add-flow .last .0) (m .add-flow .kept .0 ∙ o .add-overhauls .kept .0 ∙ w .add-once .kept .0) (m .add-flow .ensures);
       },
       passes s (k .terms .electricity) (h .fits .terms .electricity),
+      omega (arith, h .fits .since),
     )
 
 same-length : tie.Need-same-length
@@ -105,7 +107,7 @@ returns-2 c =
     let s = start i in
     let some = i .before .before .if1 .left in
     arc-raised (inMoney (s .args .money)) (now (s .args .words)) (s .args .kept) (s .args .years) (w .add-once .last .0) (o .add-overhauls .last .0)
-    (m .add-flow .last .0) (e .add-flow2 .last .0) (omega arith) (opened w) (o .add-overhauls .ensures) (m .add-flow .ensures) (e .add-flow2 .ensures)
+    (m .add-flow .last .0) (e .add-flow2 .last .0) (omega arith) (omega arith) (omega arith) (opened w) (o .add-overhauls .ensures) (m .add-flow .ensures) (e .add-flow2 .ensures)
 
 pub add-arc-spec : {M : Type 1} → statement M
 add-arc-spec =

@@ -13,19 +13,19 @@ use Rattle.nominal.specs.Nominal.{cents}
 use Rattle.spreading.specs.Raised.{Raised, flowPaid, inMoney}
 use Rattle.spreading.specs.Asks.{beforeArc}
 use Rattle.spreading.proofs.RaisedLaws.{flow-year, upTo-in, flow-none, flow-next, flow-cut, flow-late, below-raised, sum-fits}
-use Rattle.spreading.proofs.SizeLaws.{flow-most, flow-money-le, flow-cents-le, flow-cents-zero, flow-cents-suc}
+use Rattle.spreading.proofs.SizeLaws.{flow-most, flow-money-le, flow-cents-le, flow-cents-suc}
 use Rattle.spreading.proofs.cents.add_flow.Statement.{statement}
 use Rattle.spreading.proofs.cents.add_flow.Tie as tie
 
 abbrev Inv-loop : tie.InvT-loop
-Inv-loop words₀ money flow from years count value₀ n₀ words value n =
+Inv-loop words₀ money flow since from years count value₀ n₀ words value n =
     (n ≤ count)
-    × (value .0 ≡ cents (money .general) (inYear flow from n))
+    × (value .0 ≡ cents (money .general) (inYear flow since from n))
     × (length words ≡ length words₀)
-    × Raised (inMoney money) words₀ words (flowPaid flow from n)
+    × Raised (inMoney money) words₀ words (flowPaid flow since from n)
 
 abbrev μ-loop : tie.MeasureT-loop
-μ-loop words₀ money flow from years count value₀ n₀ words value n = count - n
+μ-loop words₀ money flow since from years count value₀ n₀ words value n = count - n
 
 -- the smaller of the flow's years and those up to the last, and where the code starts
 abbrev counting : tie.At-loop Inv-loop μ-loop → tie.After-smaller Inv-loop μ-loop
@@ -37,31 +37,21 @@ start c = c .before .before .before .before .before
 returns : tie.Need-returns Inv-loop μ-loop
 returns c =
     let a = c .before .before .before .args in
-    flow-late (a .money .last) (cents (a .money .general)) (a .flow) (a .from) (now (a .words)) (a .years) (c .if1 .taken)
+    flow-late (a .money .last) (cents (a .money .general)) (a .flow) (a .since) (a .from) (c .before .before .before .pre .2) (now (a .words)) (a .years) (c .if1 .taken)
 
 smaller-requires : tie.Need-smaller-requires Inv-loop μ-loop
 smaller-requires c κs = search needs
 
-paid-once-requires : tie.Need-paid-once-requires Inv-loop μ-loop
-paid-once-requires c κs =
-    let s = start c in
-    let m = s .pre .0 .money in
-    let f = s .pre .1 in
-    let high = f .high in
-    let early = m .early in
-    let amount = f .fits .amount in (
-      record { inflation = m .inflation; grown = omega (arith, f .fits .grow .high); room = omega arith },
-      f .fits .amount,
-      omega (arith, c .before .before .if1 .left),
-    )
+running-requires : tie.Need-running-requires Inv-loop μ-loop
+running-requires c κs = let h = start c .pre in (h .0 .money, h .1, h .2, c .before .before .if1 .left)
 
 loop-holds : tie.Need-loop-holds Inv-loop μ-loop
 loop-holds c =
     let a = start (c .before) .args in (
       omega arith,
-      c .paid-once .ensures ∙ flow-cents-zero (a .money .general) (a .flow) (a .from),
+      c .running .ensures,
       refl,
-      flow-none (inMoney (a .money)) (now (a .words)) (a .flow) (a .from),
+      flow-none (inMoney (a .money)) (now (a .words)) (a .flow) (a .since) (a .from),
     )
 
 -- while the loop goes on, the next year is at most the last
@@ -85,8 +75,8 @@ in-service-requires c κs =
         inflation = m .inflation;
         grown = omega (arith, f .fits .grow .high);
         room = rw (l .loop .inv .1)
-            (flow-cents-le (s .args .money .general) (f .discount) (s .args .flow) (s .args .from) (l .loop .n) (m .inflation) (omega arith) high (f .fits)
-            (omega (arith, by-last c)));
+            (flow-cents-le (s .args .money .general) (f .discount) (s .args .flow) (s .args .since) (s .args .from) (l .loop .n) (m .inflation) (omega arith) high
+            (f .fits) (s .pre .2) (omega (arith, by-last c)));
       },
       f .fits .ageHigh,
     )
@@ -96,24 +86,24 @@ next :
     (c : tie.After-in-service Inv-loop μ-loop) →
     let l = c .before .before in
     let a = start (counting l) .args in
-    c .in-service .result .0 ≡ cents (a .money .general) (inYear (a .flow) (a .from) (suc (l .loop .n)))
+    c .in-service .result .0 ≡ cents (a .money .general) (inYear (a .flow) (a .since) (a .from) (suc (l .loop .n)))
 next c =
     let l = c .before .before in
     let a = start (counting l) .args in
-    flow-cents-suc (a .money .general) (a .flow) (a .from) (l .loop .n) (l .loop .inv .1) (c .in-service .ensures)
+    flow-cents-suc (a .money .general) (a .flow) (a .since) (a .from) (l .loop .n) (l .loop .inv .1) (c .in-service .ensures)
 
 counted :
     (c : tie.After-in-service Inv-loop μ-loop) →
     let l = c .before .before in
     let a = start (counting l) .args in
-    c .in-service .result .0 ≡ inMoney (a .money) (inYear (a .flow) (a .from) (suc (l .loop .n)))
+    c .in-service .result .0 ≡ inMoney (a .money) (inYear (a .flow) (a .since) (a .from) (suc (l .loop .n)))
 counted c =
     let l = c .before .before in
     let a = start (counting l) .args in
     let n = suc (l .loop .n) in
     next c
-    ∙ sym (upTo-in (a .money .last) (cents (a .money .general)) (inYear (a .flow) (a .from) n)
-    (omega (arith, flow-year (a .flow) (a .from) n, by-last (c .before))))
+    ∙ sym (upTo-in (a .money .last) (cents (a .money .general)) (inYear (a .flow) (a .since) (a .from) n)
+    (omega (arith, flow-year (a .flow) (a .since) (a .from) n (start (counting l) .pre .2), by-last (c .before))))
 
 add-add : tie.Need-add-add Inv-loop μ-loop
 add-add c =
@@ -139,9 +129,9 @@ add-requires c κs =
     let φ = inMoney (a .money) in
     let low = f .low in
     let early = m .early in
-    let small : (k : ℕ) → φ (inYear (a .flow) (a .from) k) ≤ largestPayment =
-    λ k. flow-money-le (a .money) m (f .discount) (a .flow) (a .from) k (omega arith) (f .high) (f .fits) in
-    let so-far = flow-most φ (a .flow) (a .from) (l .loop .n) (λ k l. small (suc k)) in
+    let small : (k : ℕ) → φ (inYear (a .flow) (a .since) (a .from) k) ≤ largestPayment =
+    λ k. flow-money-le (a .money) m (f .discount) (a .flow) (a .since) (a .from) k (omega arith) (f .high) (f .fits) in
+    let so-far = flow-most φ (a .flow) (a .since) (a .from) (l .loop .n) (λ k l. small (suc k)) in
     let room = s .pre .0 .room in
     let long = room .long in
     let by = by-last i in (
@@ -166,8 +156,8 @@ loop-again c =
       omega arith,
       rw (add-one (l .loop .n)) (next v),
       w .add .kept .0 ∙ l .loop .inv .2,
-      flow-next (inMoney (a .money)) (now (a .words)) (a .flow) (a .from) (l .loop .n) (l .loop .words) (w .add .last .0) (l .loop .inv .3)
-          (omega arith) (counted v) (w .add .ensures),
+      flow-next (inMoney (a .money)) (now (a .words)) (a .flow) (a .since) (a .from) (l .loop .n) (l .loop .words) (w .add .last .0) (start (counting l) .pre .2)
+          (l .loop .inv .3) (omega arith) (counted v) (w .add .ensures),
     )
 
 same-length : tie.Need-same-length Inv-loop μ-loop
@@ -179,7 +169,7 @@ returns-2 c =
     let q = counting l in
     let a = start q .args in
     let e : l .loop .n ≡ q .smaller .result = omega arith in
-    flow-cut (a .money .last) (cents (a .money .general)) (a .flow) (a .from) (now (a .words)) (l .loop .words) (a .years) {count = l .loop .n}
+    flow-cut (a .money .last) (cents (a .money .general)) (a .flow) (a .since) (a .from) (start q .pre .2) (now (a .words)) (l .loop .words) (a .years) {count = l .loop .n}
     (e ∙ q .smaller .ensures) (q .before .before .if1 .left) (l .loop .inv .3)
 
 pub add-flow-spec : {M : Type 1} → statement M
@@ -190,7 +180,7 @@ add-flow-spec =
     μ-loop
     returns
     smaller-requires
-    paid-once-requires
+    running-requires
     loop-holds
     in-service-requires
     add-add

@@ -1,6 +1,6 @@
 -- An arc: the investment, the overhauls, maintenance and electricity, each added to the words that the part before it left. Assumes nothing.
-use Prim.Native.Nat.{ℕ, _+_}
-use mathlib.Core.Path.{_≡_, subst, sym, _∙_}
+use Prim.Native.Nat.{ℕ, _+_, _≤_}
+use mathlib.Core.Path.{_≡_, refl, subst, sym, _∙_}
 use mathlib.Core.List.{List, [], _∷_}
 use native.Mathlib.Omega.{arith}
 use denote.Ref.{now}
@@ -79,16 +79,21 @@ add-overhauls-requires c κs =
 
 -- what a flow of the option asks
 flow-asks :
-    (s : tie.Start) (w : Flow) → FlowFits (s .args .kept .discount) w → (words : List ℕ) → Room words (s .args .kept .from + s .args .years) beforeArc
-    → FlowAsks words (s .args .discount) w (s .args .kept .from) (s .args .years)
-flow-asks s w fits words room =
+    (s : tie.Start) (w : Flow) (since : ℕ) → FlowFits (s .args .kept .discount) w → since ≤ s .args .kept .from → (words : List ℕ)
+    → Room words (s .args .kept .from + s .args .years) beforeArc → FlowAsks words (s .args .discount) w since (s .args .kept .from) (s .args .years)
+flow-asks s w since fits old words room =
     let h = s .pre in
     let n = h .steps .divides .number in
     record {
-      ready = h .steps .divides .ready;
-      discountLow = rw n (h .steps .fits .low);
-      discountHigh = rw n (h .steps .fits .high);
-      fits = subst (λ (d : ℕ). FlowFits d w) (sym n) fits;
+      steps =
+          record {
+            ready = h .steps .divides .ready;
+            low = rw n (h .steps .fits .low);
+            high = rw n (h .steps .fits .high);
+            fits = subst (λ (d : ℕ). FlowFits d w) (sym n) fits;
+          };
+      old = old;
+      early = h .steps .fits .from;
       few = h .few;
       room = room;
     }
@@ -98,12 +103,12 @@ maintained :
     (c : tie.After-add-flow) →
     let o = c .before .before .before .before in
     let a = start (o .before .before .before .before .before .before .before) .args in
-    Raised (rounded (a .kept .discount)) (o .add-overhauls .last .0) (c .add-flow .last .0) (flowPaid (a .kept .terms .maintenance) (a .kept .from) (a .years))
+    Raised (rounded (a .kept .discount)) (o .add-overhauls .last .0) (c .add-flow .last .0) (flowPaid (a .kept .terms .maintenance) (a .kept .from) (a .kept .from) (a .years))
 maintained c =
     let o = c .before .before .before .before in
     let s = start (o .before .before .before .before .before .before .before) in
     let k = s .args .kept in
-    subst (λ (d : ℕ). Raised (rounded d) (o .add-overhauls .last .0) (c .add-flow .last .0) (flowPaid (k .terms .maintenance) (k .from) (s .args .years)))
+    subst (λ (d : ℕ). Raised (rounded d) (o .add-overhauls .last .0) (c .add-flow .last .0) (flowPaid (k .terms .maintenance) (k .from) (k .from) (s .args .years)))
     (s .pre .steps .divides .number) (c .add-flow .ensures)
 
 add-flow-requires : tie.Need-add-flow-requires
@@ -113,7 +118,7 @@ add-flow-requires c κs =
     let s = start (w .before .before .before) in
     let h = s .pre in
     let k = s .args .kept in
-    flow-asks s (k .terms .maintenance) (h .steps .fits .terms .maintenance) (o .add-overhauls .last .0)
+    flow-asks s (k .terms .maintenance) (k .from) (h .steps .fits .terms .maintenance) (omega arith) (o .add-overhauls .last .0)
     (room-overhauled (rounded (k .discount)) k (h .steps .fits) (s .args .years) (h .few) (units-small k (h .steps .fits) (s .args .years) (h .few)) _
     (now (s .args .words)) (h .long) (h .room) (w .add .last .0) (o .add-overhauls .last .0) (opened w) (o .add-overhauls .ensures)
     (o .add-overhauls .kept .0 ∙ w .add .kept .0))
@@ -126,7 +131,7 @@ add-flow-requires-2 c κs =
     let s = start (w .before .before .before) in
     let h = s .pre in
     let k = s .args .kept in
-    flow-asks s (k .terms .electricity) (h .steps .fits .terms .electricity) (m .add-flow .last .0)
+    flow-asks s (k .terms .electricity) (k .since) (h .steps .fits .terms .electricity) (h .steps .fits .since) (m .add-flow .last .0)
     (room-maintained (rounded (k .discount)) k (h .steps .fits) (s .args .years) (h .few) (units-small k (h .steps .fits) (s .args .years) (h .few)) _
     (now (s .args .words)) (h .long) (h .room) (w .add .last .0) (o .add-overhauls .last .0) (opened w) (o .add-overhauls .ensures)
     (m .add-flow .last .0) (m .add-flow .kept .0 ∙ o .add-overhauls .kept .0 ∙ w .add .kept .0) (maintained m))
@@ -145,8 +150,8 @@ returns-2 c =
     let k = s .args .kept in
     let some = i .before .before .if1 .left in
     arc-raised (rounded (k .discount)) (now (s .args .words)) k (s .args .years) (w .add .last .0) (o .add-overhauls .last .0) (m .add-flow .last .0) (e .add-flow2 .last .0)
-    (omega arith) (opened w) (o .add-overhauls .ensures) (maintained m)
-    (subst (λ (d : ℕ). Raised (rounded d) (m .add-flow .last .0) (e .add-flow2 .last .0) (flowPaid (k .terms .electricity) (k .from) (s .args .years)))
+    (omega arith) refl refl (opened w) (o .add-overhauls .ensures) (maintained m)
+    (subst (λ (d : ℕ). Raised (rounded d) (m .add-flow .last .0) (e .add-flow2 .last .0) (flowPaid (k .terms .electricity) (k .since) (k .from) (s .args .years)))
     (s .pre .steps .divides .number) (e .add-flow2 .ensures))
 
 pub add-arc-spec : {M : Type 1} → statement M

@@ -5,16 +5,23 @@ use native.Mathlib.Omega.{arith}
 use lib.ListN.{getD}
 use borrow.Author.Needs.{needs}
 use Rattle.sheet.specs.Parsed.{noTerms}
+use Rattle.costing.specs.Arc.{electricity}
 use Rattle.streams.specs.Streams.{Streams}
+use Rattle.streams.proofs.FillLaws.{power-same}
 use Rattle.streams.proofs.lending.lend.Statement.{statement}
 use Rattle.streams.proofs.lending.lend.Tie as tie
 
 returns : tie.Need-returns
+unfolding electricity
 returns c =
     let s = c .before .before .before .before .before .before .before .before in
     let filled = c .before .before .before .before .fill in
     let terms = getD (s .args .t2 .options) (s .args .option) noTerms in
-    (subst (λ (d : ℕ). Streams d terms (s .args .t2 .horizon) (filled .last .0)) (s .pre .0 .1 .number) (filled .ensures), refl)
+    let number = s .pre .0 .1 .number in (
+      subst (λ (d : ℕ). Streams d terms (s .args .t2 .horizon) (filled .last .0)) number (filled .ensures .0),
+      refl,
+      power-same (terms .electricity) (s .args .t2 .horizon) (filled .last .0) number (omega arith) (filled .ensures .1),
+    )
 
 mul-terms : tie.Need-mul-terms
 mul-terms c = search needs

@@ -6,8 +6,8 @@ use borrow.Author.Needs.{needs}
 use Rattle.sheet.specs.Sheet.{replace}
 use Rattle.costing.specs.Arc.{keptOf}
 use Rattle.costing.specs.declared.Kept.{Kept}
-use Rattle.weighing.specs.Ends.{WordsBehind}
-use Rattle.tails.proofs.YearLaws.{Walks, year-best, words-behind, replace-walks}
+use Rattle.weighing.specs.Ends.{Walks, WordsBehind}
+use Rattle.tails.proofs.YearLaws.{year-best, words-behind, replace-walks}
 use Rattle.tails.proofs.words.one_year.Statement.{statement}
 use Rattle.tails.proofs.words.one_year.Tie as tie
 
@@ -43,7 +43,7 @@ best-end-requires c κs =
     let streams = now (s .args .streams) in
     let ages = now (s .args .ages) in
     let year = s .args .year in (
-      of-kept k (Walks sheet (s .args .discount) streams ages)
+      of-kept k (λ a. Walks a (s .args .discount) (sheet .horizon) streams ages)
           (replace-walks sheet (s .args .discount) streams ages words (now (s .args .firsts)) (s .pre .0) year (omega (arith, s .pre .1 .0))),
       of-kept k (λ a. WordsBehind a (sheet .horizon) words)
           (words-behind sheet words (s .pre .0 .sheet) (keptOf sheet replace year) (s .pre .1 .0) (s .pre .0 .enough) (s .pre .1 .1)),

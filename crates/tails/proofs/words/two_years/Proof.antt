@@ -10,12 +10,14 @@ use Rattle.sheet.specs.declared.Sheet.{Sheet}
 use Rattle.costing.specs.Arc.{keptOf, keptFrom}
 use Rattle.costing.specs.Fit.{KeptFits}
 use Rattle.costing.specs.declared.Kept.{Kept}
-use Rattle.weighing.specs.Ends.{CostsTo, WordsBehind}
+use Rattle.costing.proofs.SheetArcLaws.{replace-from}
+use Rattle.streams.specs.Streams.{PowerAt}
+use Rattle.weighing.specs.Ends.{Walks, CostsTo, WordsBehind}
 use Rattle.weighing.proofs.ArcCostLaws.{kept-from-fits, costs-to}
 use Rattle.tails.specs.Words.{wordsNeeded, totalOf, firstEnd}
 use Rattle.tails.specs.Writing.{WordsHeld, YearWritten}
 use Rattle.tails.proofs.WritingLaws.{held-next}
-use Rattle.tails.proofs.YearLaws.{Walks, year-best, words-behind, replace-walks, two-written}
+use Rattle.tails.proofs.YearLaws.{year-best, words-behind, replace-walks, two-written}
 use Rattle.tails.proofs.words.two_years.Statement.{statement}
 use Rattle.tails.proofs.words.two_years.Tie as tie
 
@@ -50,8 +52,11 @@ of-kept c P h = subst P (sym (c .kept-of .ensures)) h
 from-is : (c : tie.After-kept-of) → c .kept-of .result .from ≡ start c .args .reached - 2
 from-is c = ap (λ (k : Kept). k .from) (c .kept-of .ensures)
 
+next-kept : (c : tie.After-kept-of) → keptFrom (c .kept-of .result) (late c) ≡ keptOf (sheet c) replace (late c)
+next-kept c = ap (λ (k : Kept). keptFrom k (late c)) (c .kept-of .ensures) ∙ replace-from (sheet c) (start c .args .reached - 2) (late c)
+
 next-is : (c : tie.After-starting) → c .starting .result ≡ keptOf (sheet (c .before)) replace (late (c .before))
-next-is c = c .starting .ensures ∙ ap (λ (k : Kept). keptFrom k (late (c .before))) (c .before .kept-of .ensures)
+next-is c = c .starting .ensures ∙ next-kept (c .before)
 
 from-next : (c : tie.After-starting) → c .starting .result .from ≡ late (c .before)
 from-next c = ap (λ (k : Kept). k .from) (next-is c)
@@ -59,26 +64,32 @@ from-next c = ap (λ (k : Kept). k .from) (next-is c)
 of-next : (c : tie.After-starting) (P : Kept → Type 0) → P (keptFrom (c .before .kept-of .result) (late (c .before))) → P (c .starting .result)
 of-next c P h = subst P (sym (c .starting .ensures)) h
 
-walks : (c : tie.After-kept-of) → let s = start c in Walks (sheet c) (s .args .discount) (now (s .args .streams)) (now (s .args .ages)) (c .kept-of .result)
-walks c =
+abbrev WalksHere : tie.After-kept-of → Kept → Type 0
+WalksHere c k = let a = start c .args in Walks k (a .discount) (sheet c .horizon) (now (a .streams)) (now (a .ages))
+
+walks-from : (c : tie.After-kept-of) (y : ℕ) → y ≤ sheet c .horizon → WalksHere c (keptOf (sheet c) replace y)
+walks-from c =
     let s = start c in
-    let streams = now (s .args .streams) in
-    let ages = now (s .args .ages) in
-    of-kept c (Walks (sheet c) (s .args .discount) streams ages)
-    (replace-walks (sheet c) (s .args .discount) streams ages (now (s .args .words)) (now (s .args .firsts)) (s .pre .0) (s .args .reached - 2)
-    (omega (arith, s .pre .1 .1)))
+    let a = s .args in
+    replace-walks (sheet c) (a .discount) (now (a .streams)) (now (a .ages)) (now (a .words)) (now (a .firsts)) (s .pre .0)
+
+walks : (c : tie.After-kept-of) → WalksHere c (c .kept-of .result)
+walks c = let s = start c in of-kept c (WalksHere c) (walks-from c (s .args .reached - 2) (omega (arith, s .pre .1 .1)))
 
 fits : (c : tie.After-kept-of) → KeptFits (c .kept-of .result)
-fits c = walks c .0 .steps .fits
+fits c = walks c .steps .fits
 
 two-starts-requires : tie.Need-two-starts-requires
 two-starts-requires c κs =
     let k = c .before .before .before .before .before in
     let s = start k in
     let top = c .before .before .smaller .ensures in (
-      walks k .0,
       (
-        (walks k .1, short k, omega (arith, top, fits k .terms .longest)),
+        walks k,
+        subst (λ (a : Kept). PowerAt a (now (s .args .streams))) (sym (next-kept k)) (walks-from k (late k) (omega (arith, s .pre .1 .1)) .power),
+      ),
+      (
+        (short k, omega (arith, top, fits k .terms .longest)),
         (
           (omega (arith, from-is k), omega (arith, s .pre .1 .0, s .pre .1 .1), omega (arith, top, s .pre .1 .0, s .pre .1 .1)),
           (search needs, search needs),
@@ -108,7 +119,8 @@ word-requires c κs =
         fits = of-next m KeptFits (kept-from-fits (k .kept-of .result) (fits k) (late k) (omega (arith, short k, some .1)));
         known =
             of-next m (λ a. CostsTo a T (t .two-starts .last .1 .0))
-            (costs-to (k .kept-of .result) (late k) T _ (t .two-starts .last .1 .0) (top t) (omega (arith, from-is k)) (t .two-starts .ensures .1));
+            (costs-to (keptFrom (k .kept-of .result) (late k)) (k .kept-of .result .from) T _ (t .two-starts .last .1 .0) (top t) (omega (arith, from-is k))
+            (t .two-starts .ensures .1));
         room = omega (arith, t .two-starts .kept .1 .0);
       },
       subst (λ (a : Kept). WordsBehind a T (now (s .args .words))) (sym (next-is m))

@@ -11,7 +11,7 @@ use Rattle.costing.specs.Fit.{KeptFits}
 use Rattle.costing.specs.Walk.{overhaulsAt, walkAt}
 use Rattle.costing.specs.declared.Kept.{Kept}
 use Rattle.costing.proofs.WalkLaws.{walk-years, walk-stands}
-use Rattle.streams.specs.Streams.{Streams, Falls}
+use Rattle.streams.specs.Streams.{streamPlaces, Streams, PowerAt, Falls}
 use Rattle.streams.proofs.FallLaws.{falls-zero}
 use Rattle.weighing.specs.Ends.{Costs}
 use Rattle.weighing.proofs.ArcCostLaws.{kept-from-fits, falls-from, costs-none, costs-next}
@@ -31,11 +31,11 @@ abbrev μ-loop : tie.MeasureT-loop
 μ-loop earlier₀ later₀ streams ages kept start discount last years other walk₀ beside₀ next₀ n₀ earlier later walk beside next n = years - n
 
 abbrev start : tie.At-loop Inv-loop μ-loop → tie.Start Inv-loop μ-loop
-start c = c .before .before .before .before .before .before .before
+start c = c .before .before .before .before .before .before .before .before .before
 
 -- the same option, kept from the other year: what holds of it holds of what the code has made
 abbrev made : tie.At-loop Inv-loop μ-loop → tie.After-starting Inv-loop μ-loop
-made c = c .before .before .before
+made c = c .before .before .before .before .before
 
 abbrev other : tie.After-starting Inv-loop μ-loop → Kept
 other b = b .starting .result
@@ -46,10 +46,10 @@ of-other :
 of-other b P h = subst P (sym (b .starting .ensures)) h
 
 short : (s : tie.Start Inv-loop μ-loop) → s .args .last ≤ 300
-short s = s .pre .1 .0 .1
+short s = s .pre .1 .0 .0
 
 few : (c : tie.In-loop Inv-loop μ-loop) → c .before .loop .n < 120
-few c = omega (arith, c .loop-test .taken, start (c .before) .pre .1 .0 .2)
+few c = omega (arith, c .loop-test .taken, start (c .before) .pre .1 .0 .1)
 
 -- there is a place for what the arcs cost
 room :
@@ -67,7 +67,7 @@ inside c = omega (arith, c .loop-test .taken, start (c .before) .pre .1 .1 .0)
 other-fits : (b : tie.After-starting Inv-loop μ-loop) → KeptFits (other b)
 other-fits b =
     let s = b .before .before .before .before in
-    of-other b KeptFits (kept-from-fits (s .args .kept) (s .pre .0 .steps .fits) (s .args .start) (omega (arith, s .pre .1 .1 .0, short s)))
+    of-other b KeptFits (kept-from-fits (s .args .kept) (s .pre .0 .0 .steps .fits) (s .args .start) (omega (arith, s .pre .1 .1 .0, short s)))
 
 -- where the two arcs stand after one year more
 walks : (c : tie.After-year Inv-loop μ-loop) → c .year .result ≡ walkAt (start (c .before .before .before .before) .args .kept) (c .before .before .before .before .loop .n + 1)
@@ -114,32 +114,48 @@ returns c =
 starting-requires : tie.Need-starting-requires Inv-loop μ-loop
 starting-requires c κs = tt
 
+power-requires : tie.Need-power-requires Inv-loop μ-loop
+power-requires c κs =
+    let s = c .before .before .before .before in
+    (s .pre .0 .0 .power, s .pre .0 .0 .steps .fits .from, s .pre .0 .0 .paid .room)
+
 open-requires : tie.Need-open-requires Inv-loop μ-loop
-open-requires c κs = let s = c .before .before .before .before in (s .pre .1 .0 .0, omega (arith, s .pre .1 .1 .0), short s)
+open-requires c κs =
+    let s = c .before .before .before .before .before in
+    ((s .pre .0 .0 .paid, omega (arith, s .pre .1 .1 .0), short s), c .power .ensures)
+
+power-requires-2 : tie.Need-power-requires-2 Inv-loop μ-loop
+power-requires-2 c κs =
+    let b = c .before .before in
+    let s = b .before .before .before .before in
+    of-other b (λ k. PowerAt k (now (s .args .streams)) × (k .from ≤ 300) × (streamPlaces ≤ length (now (s .args .streams))))
+    (s .pre .0 .1, omega (arith, s .pre .1 .1 .0, short s), s .pre .0 .0 .paid .room)
 
 open-requires-2 : tie.Need-open-requires-2 Inv-loop μ-loop
 open-requires-2 c κs =
-    let b = c .before in
-    let s = b .before .before .before .before in
-    of-other b (λ k. Streams (k .discount) (k .terms) (s .args .last) (now (s .args .streams)) × (k .from ≤ s .args .last) × (s .args .last ≤ 300))
-    (s .pre .1 .0 .0, s .pre .1 .1 .0 .1, short s)
+    let b = c .before .before .before in
+    let s = b .before .before .before .before in (
+      of-other b (λ k. Streams (k .discount) (k .terms) (s .args .last) (now (s .args .streams)) × (k .from ≤ s .args .last) × (s .args .last ≤ 300))
+          (s .pre .0 .0 .paid, s .pre .1 .1 .0 .1, short s),
+      c .power2 .ensures,
+    )
 
 loop-holds : tie.Need-loop-holds Inv-loop μ-loop
 loop-holds c =
-    let s = c .before .before .before .before .before .before in
+    let s = c .before .before .before .before .before .before .before .before in
     let a = s .args in (
       omega arith,
-      c .before .«open» .ensures,
+      c .before .before .«open» .ensures,
       c .open2 .ensures,
       falls-zero _,
       (refl, costs-none (a .kept) (now (a .earlier))),
-      (refl, costs-none (other (c .before .before)) (now (a .later))),
+      (refl, costs-none (other (c .before .before .before .before)) (now (a .later))),
     )
 
 due-requires : tie.Need-due-requires Inv-loop μ-loop
 due-requires c κs =
     let s = start (c .before) in
-    ((s .pre .0 .steps .fits, s .pre .0 .ages, c .before .loop .inv .3), (s .pre .1 .0 .0, omega (arith, inside c, s .pre .1 .1 .0), short s))
+    ((s .pre .0 .0 .steps .fits, s .pre .0 .0 .ages, c .before .loop .inv .3), (s .pre .0 .0 .paid, omega (arith, inside c, s .pre .1 .1 .0), short s))
 
 due-requires-2 : tie.Need-due-requires-2 Inv-loop μ-loop
 due-requires-2 c κs =
@@ -150,11 +166,11 @@ due-requires-2 c κs =
     (KeptFits k × (now (s .args .ages) ≡ k .terms .overhauls .ages) × Falls k (a .loop .n) (a .loop .next))
     × (Streams (k .discount) (k .terms) (s .args .last) (now (s .args .streams)) × (k .from + a .loop .n ≤ s .args .last) × (s .args .last ≤ 300))) (
       (
-        kept-from-fits (s .args .kept) (s .pre .0 .steps .fits) (s .args .start) (omega (arith, s .pre .1 .1 .0, short s)),
-        s .pre .0 .ages,
+        kept-from-fits (s .args .kept) (s .pre .0 .0 .steps .fits) (s .args .start) (omega (arith, s .pre .1 .1 .0, short s)),
+        s .pre .0 .0 .ages,
         falls-from (s .args .kept) (s .args .start) (a .loop .n) (a .loop .next) (a .loop .inv .3),
       ),
-      (s .pre .1 .0 .0, inside (c .before), short s),
+      (s .pre .0 .0 .paid, inside (c .before), short s),
     )
 
 year-requires : tie.Need-year-requires Inv-loop μ-loop
@@ -164,7 +180,7 @@ year-requires c κs =
     let kept = s .args .kept in
     let years = walk-years kept (a .loop .walk) (a .loop .n) (a .loop .inv .1) in
     let due : ℕ → ℕ = λ n. worth kept (overhaulsAt kept n) in (
-      (s .pre .0 .steps, omega (arith, years, few (c .before .before))),
+      (s .pre .0 .0 .steps, omega (arith, years, few (c .before .before))),
       (walk-stands kept (a .loop .walk) (a .loop .n) (a .loop .inv .1), c .before .due .ensures .0 ∙ ap due (sym years)),
     )
 
@@ -175,7 +191,7 @@ year-requires-2 c κs =
     let kept = other (made a) in
     let years = walk-years kept (a .loop .beside) (a .loop .n) (a .loop .inv .2) in
     let due : ℕ → ℕ = λ n. worth kept (overhaulsAt kept n) in (
-      (record { fits = other-fits (made a); divides = of-other (made a) (λ k. Divides (s .args .discount) (k .discount)) (s .pre .0 .steps .divides) }, omega (arith, years, few (c .before .before .before))),
+      (record { fits = other-fits (made a); divides = of-other (made a) (λ k. Divides (s .args .discount) (k .discount)) (s .pre .0 .0 .steps .divides) }, omega (arith, years, few (c .before .before .before))),
       (walk-stands kept (a .loop .beside) (a .loop .n) (a .loop .inv .2), c .before .due2 .ensures .0 ∙ ap due (sym years)),
     )
 
@@ -210,7 +226,9 @@ two-starts-spec =
     Inv-loop
     μ-loop
     starting-requires
+    power-requires
     open-requires
+    power-requires-2
     open-requires-2
     loop-holds
     due-requires
