@@ -29,7 +29,7 @@ fn overhaul_at(age: u64, amount: u64, grow: u64, discount: Divisor, from: u64, n
     Units(0)
 }
 
-// Where the running amount of a flow stands at the start of an arc from a year, if the flow is in service since an earlier one.
+// Where the running amount of a flow stands at the start of an arc from a year, if the flow is in service since that year or an earlier one.
 pub fn running(flow: Flow, discount: Divisor, since: u64, from: u64) -> Units
     requires { ⌜ FlowSteps discount flow × (since ≤ from) × (from ≤ 300) ⌝ }
     ensures { λ r. ⌜ r .0 ≡ rounded (discount .by) (inYear flow since from 0) ⌝ }

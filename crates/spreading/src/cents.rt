@@ -80,7 +80,7 @@ fn add_overhauls(words: &mut [u64], kept: Kept, money: Money, years: u64)
     }
 }
 
-// Where the running amount of a flow stands at the start of an arc from a year, if the flow is in service since an earlier one.
+// Where the running amount of a flow stands at the start of an arc from a year, if the flow is in service since that year or an earlier one.
 fn running(money: Money, flow: Flow, since: u64, from: u64) -> Cents
     requires { ⌜ MoneyFits money × FlowPasses flow × (since ≤ from) × (from ≤ money .last) ⌝ }
     ensures { λ r. ⌜ r .0 ≡ cents (money .general) (inYear flow since from 0) ⌝ }
