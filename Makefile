@@ -1,4 +1,5 @@
-# make           builds the archive, the example and planshow under target/
+# make           builds the archive, the shared library, the example and planshow under target/
+# make shared    links the archive as target/shared/libnimovalsa.so, for tools/factors; it is not installed
 # make install   puts the archive, the headers, planshow and nimovalsa.pc under PREFIX, which is /usr/local;
 #                DESTDIR, if given, stands before it, and nimovalsa.pc does not name it
 # make plan      prints the plan of the sheet that the text file SHEET describes, and nothing else
@@ -12,21 +13,28 @@ DESTDIR ?=
 SHEET ?= examples/pumping-station.txt
 CFLAGS ?= -O2
 
-version = 1.4.0
+version = 1.5.0
 archive = target/staticlib/libnimovalsa.a
+shared = target/shared/libnimovalsa.so
 planshow = target/bin/planshow
 headers = include/nimovalsa.h include/nimovalsa_sheet.h
 place = $(DESTDIR)$(PREFIX)
 
-.PHONY: all archive example planshow install prefix-ok plan sheet-ok test clean
+.PHONY: all archive shared example planshow install prefix-ok plan sheet-ok test clean
 
 # Calls of rt side by side would write the same files.
 .NOTPARALLEL:
 
-all: archive example planshow
+all: archive shared example planshow
 
 archive:
 	@rt staticlib nimovalsa >&2
+
+# Moved to its name when it is whole: loading a library that was cut off ends the process without a word.
+shared: archive
+	@mkdir -p $(dir $(shared))
+	$(CC) -shared -o $(shared).new -Wl,--whole-archive $(archive) -Wl,--no-whole-archive
+	@mv $(shared).new $(shared)
 
 planshow:
 	@rt check planshow >&2

@@ -36,8 +36,8 @@
  *   number   0 if the call accepts, else the number of the refusal
  *   option   0, 1 or 2 with refusals 5 to 9; 3 with every other number, 0
  *            included
- *   total    the total or cost; 0 with a refusal, and 0 from a call that
- *            answers neither
+ *   total    the total, cost or factor; 0 with a refusal, and 0 from a call
+ *            that answers none of them
  *
  * The calls use no heap and keep nothing. Of other code the archive calls
  * memcpy and memset alone.
@@ -300,6 +300,41 @@ uint64_t nimovalsa_budget(const uint8_t *sheet, size_t sheet_length,
                           const uint8_t *plan, size_t plan_length,
                           uint64_t general, uint64_t *units, size_t units_count,
                           uint64_t *cents, size_t cents_count);
+
+/*
+ * Gives a present-worth factor: what 1 paid in a year is worth in year 0. rate
+ * is in millionths a year. The total is the factor in units of 10^-12, so that
+ * 10^12 stands for 1. rate and year may be any numbers.
+ *
+ * The number is that of the first fault, or 0 if there is none. Two numbers
+ * that nimovalsa_check and nimovalsa_cost answer have a second meaning here;
+ * the option is 3 with both:
+ *
+ *   4  rate above 200,000
+ *  13  year above 300
+ *
+ * A factor is 10^12 moved forward from year 0 to its year, a year at a time, by
+ * 10^6 / (10^6 + rate), rounded up to a whole number: the steps that a payment
+ * without inflation takes, so that 10^8 currency units paid once in that year
+ * have the factor as their present value in units. It is never below its exact
+ * value, 10^12 * (10^6 / (10^6 + rate))^year, and at most year above it.
+ *
+ * Rates of 20,000, 30,000, 40,000 and 50,000 (2, 3, 4 and 5 per cent) are
+ * looked up in a table of 1,204 numbers, every other rate is stepped; both give
+ * the same factors. The compiler does not keep the table as data: a call that
+ * looks up first stores all of it to its stack, and so takes the same time in
+ * every year. It was measured to take 220 ns, and a step 3 ns.
+ *
+ * Buffers: none. Nothing is kept between calls.
+ *
+ * Duties of the caller, which the call cannot check:
+ *   - NIMOVALSA_FACTOR_STACK bytes of stack are free. The call was measured to
+ *     use 9,696 bytes, nearly all of them for the table; tests/c measures it
+ *     again and fails above the figure here. It is not proved.
+ */
+#define NIMOVALSA_FACTOR_STACK 16384
+
+uint64_t nimovalsa_factor(uint64_t rate, uint64_t year);
 
 #ifdef __cplusplus
 }

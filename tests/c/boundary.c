@@ -1,10 +1,11 @@
 /*
- * Calls nimovalsa_check, nimovalsa_cost, nimovalsa_price, nimovalsa_plan and
- * nimovalsa_budget from C on good, damaged, short and long sheets and plans, on
- * arcs with and without fault, and with buffers of many lengths. Compares each
- * answer with the refusal table, the costs and the totals of document 01, and
- * what is written with its chains and words and with the budget of document 02.
- * harness.c says how the memory around a call is watched.
+ * Calls nimovalsa_check, nimovalsa_cost, nimovalsa_price, nimovalsa_plan,
+ * nimovalsa_budget and nimovalsa_factor from C on good, damaged, short and long
+ * sheets and plans, on arcs with and without fault, with buffers of many
+ * lengths, and at many rates and years. Compares each answer with the refusal
+ * table, the costs and the totals of document 01 and the factors of document
+ * 02, and what is written with the chains and words of the one and the budget
+ * of the other. harness.c says how the memory around a call is watched.
  *
  * Status: 0 if all is as expected, 1 if not, 2 for wrong use.
  */
@@ -28,16 +29,18 @@ int main(int argc, char **argv)
     test_planning();
     test_budgets();
     test_budgeting();
+    test_factors();
     test_stack(&checking);
     test_stack(&costing);
     test_stack(&pricing);
     test_stack(&planning);
     test_stack(&budgeting);
+    test_stack(&factoring);
     printf("c boundary: %lu calls as expected, stack %zu bytes for "
            "nimovalsa_check, %zu for nimovalsa_cost, %zu for "
            "nimovalsa_price, %zu for nimovalsa_plan, %zu for "
-           "nimovalsa_budget\n",
+           "nimovalsa_budget, %zu for nimovalsa_factor\n",
            calls, checking.stack_used, costing.stack_used, pricing.stack_used,
-           planning.stack_used, budgeting.stack_used);
+           planning.stack_used, budgeting.stack_used, factoring.stack_used);
     return 0;
 }

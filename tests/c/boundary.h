@@ -28,6 +28,8 @@ enum {
     LONGEST_PLAN = 19 + 2 * MOST_ENDS + 3
 };
 
+#define BIT(n) (UINT64_C(1) << (n))
+
 /* ---- harness.c: failure ---- */
 
 /* Names the case that runs now; it is printed with a failure. */
@@ -212,7 +214,8 @@ void expect_budget_with_null(struct asked asked, uint64_t answer,
 
 /* ---- the tests of each call ---- */
 
-extern struct subject checking, costing, pricing, planning, budgeting;
+extern struct subject checking, costing, pricing, planning, budgeting,
+    factoring;
 
 void test_checking(void);
 void test_costing(void);
@@ -221,6 +224,7 @@ void test_pricing(void); /* pricing, by the plan's bytes */
 void test_planning(void);
 void test_budgets(void);   /* budgeting, by what the lists hold */
 void test_budgeting(void); /* budgeting, by its refusals and buffers */
+void test_factors(void);
 
 /* On a sheet where checking answers this, the other calls answer the same if
  * it is a refusal, whatever the arc, plan or buffers. On an accepted sheet the

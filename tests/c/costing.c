@@ -115,8 +115,6 @@ struct arc_case {
     uint64_t answer;
 };
 
-#define BIT(n) (UINT64_C(1) << (n))
-
 /* Case 6; then what the case sheet does not offer. */
 static const struct arc_case case_arcs[] = {
     {{2, 1, 3}, 7105283},

@@ -11,6 +11,7 @@ from typing import NamedTuple
 ROOT = os.path.dirname(os.path.dirname(os.path.dirname(os.path.abspath(__file__))))
 TOOLS = os.path.join(ROOT, 'tools')
 EXAMPLE = os.path.join(ROOT, 'examples', 'pumping-station.txt')
+ARCHIVE = os.path.join(ROOT, 'target', 'staticlib', 'libnimovalsa.a')
 
 sys.path.insert(0, TOOLS)  # for the checks of functions
 
@@ -71,9 +72,9 @@ class Bench:
             finally:
                 sys.argv, sys.stdin, sys.stdout, sys.stderr = kept
 
-    def program(self, name, *arguments, data=b'', **streams):
+    def program(self, name, *arguments, data=b'', tools=TOOLS, **streams):
         """A tool run as a program of its own, in Python's usual way whatever the environment asks of it."""
-        run = subprocess.run([sys.executable, '-E', os.path.join(TOOLS, name), *arguments], input=data,
+        run = subprocess.run([sys.executable, '-E', os.path.join(tools, name), *arguments], input=data,
                              stderr=subprocess.PIPE, **{'stdout': subprocess.PIPE, **streams})
         return Run(run.returncode, run.stdout or b'', run.stderr.decode())
 

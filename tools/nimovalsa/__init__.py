@@ -1,1 +1,1 @@
-"""What tools/sheet and tools/plot share: sheets, plans, what an arc pays, budgets, and the drawing."""
+"""What the tools share: sheets, plans, what an arc pays, budgets, the drawing, and the factors of the library."""

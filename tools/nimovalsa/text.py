@@ -4,8 +4,8 @@ import re
 from typing import NamedTuple
 
 from .figures import euros, per_cent, read_euros, read_per_cent, read_years, years
-from .files import Wrong
-from .sheet import ENTRIES, OPTIONS, UNUSED, Overhaul, Record, Refused, Sheet, checked, value
+from .files import Wrong, WrongUse
+from .sheet import ENTRIES, OPTIONS, UNUSED, Overhaul, Record, Refused, Sheet, checked, limits, value
 
 NOT_OFFERED = 'not offered'
 SHOWN = 40  # characters of a faulty value in a message
@@ -176,6 +176,16 @@ def record_of(section):
 def short(text):
     """What was read, as one short line."""
     return repr(text if len(text) <= SHOWN else text[:SHOWN] + '...')
+
+
+def rate_given(field, text, most):
+    """A rate of a command line, from 0 to the most, in millionths a year; it is written as a rate of a text sheet."""
+    rate = read_per_cent(text)
+    if rate is None:
+        raise WrongUse(f'{field}: cannot read {short(text)}, write a rate such as 2% or 1.75%')
+    if not 0 <= rate <= most:
+        raise WrongUse(limits(field, per_cent, rate, 0, most))
+    return rate
 
 
 def read_text(data, name):

@@ -1,7 +1,7 @@
 // The C forms: each calls its Rattle form and packs the answer into one u64. A slice is a pointer and then a length.
 // The declarations for C are in include/nimovalsa.h.
 //
-// This page is all that is claimed of the five calls, for every input. The names below say where each definition stands. `now (x .entry)` is
+// This page is all that is claimed of the six calls, for every input. The names below say where each definition stands. `now (x .entry)` is
 // what a buffer holds before the call and `now (x .exit)` after it; `answerIn r` is the total, number and option in what is returned.
 
 ghost use mathlib.Core.Path.{_≡_};
@@ -22,6 +22,8 @@ ghost use Rattle.planning.specs.Planning.{planAnswer, planAfter, wordsAfter};
 ghost use Rattle.planner.specs.Promises.{Promised};
 ghost use Rattle.budget.specs.Budget.{budgetAnswer, unitsAfter, centsAfter};
 ghost use Rattle.budget.specs.Promises.{PromisedBudget};
+ghost use Rattle.yearbook.specs.Yearbook.{factorAnswer};
+ghost use Rattle.yearbook.specs.Promises.{PromisedFactor};
 ghost use Rattle.nimovalsa.specs.Packed.{answerIn, Returns};
 use base::Answer;
 
@@ -90,4 +92,13 @@ pub extern "C" fn nimovalsa_budget(
     ensures promised { λ r. ⌜ PromisedBudget (now (sheet .entry)) (now (plan .entry)) general (now (units .entry)) (now (cents .entry)) (answerIn r) (now (units .exit)) (now (cents .exit)) ⌝ }
 {
     pack(budget::budget(sheet, plan, general, units, cents))
+}
+
+// The yearbook: the present-worth factor for a rate and a year, 10^12 standing for 1, and the number and the option of the refusal table.
+#[no_mangle]
+pub extern "C" fn nimovalsa_factor(rate: u64, year: u64) -> u64
+    ensures answer { λ r. ⌜ Returns r (factorAnswer rate year) ⌝ }
+    ensures promised { λ r. ⌜ PromisedFactor rate year (answerIn r) ⌝ }
+{
+    pack(yearbook::factor(rate, year))
 }

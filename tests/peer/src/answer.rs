@@ -5,8 +5,8 @@ const NO_OPTION: u64 = 3;
 
 #[derive(Clone, Copy, Debug, PartialEq)]
 pub struct Answer {
-    /// The cost of an accepted arc or the total of an accepted plan; 0 with a refusal and from
-    /// checking.
+    /// The cost of an accepted arc, the total of an accepted plan or a factor; 0 with a refusal
+    /// and from checking.
     pub total: u64,
     /// The number of the refusal, 0 if there is none.
     pub number: u64,

@@ -32,6 +32,7 @@ extern "C" {
         cents: *mut u64,
         cents_count: usize,
     ) -> u64;
+    fn nimovalsa_factor(rate: u64, year: u64) -> u64;
 }
 
 pub fn check(sheet: &[u8]) -> u64 {
@@ -84,4 +85,9 @@ pub fn budget(
             cents.len(),
         )
     }
+}
+
+pub fn factor(rate: u64, year: u64) -> u64 {
+    // SAFETY: both may be any numbers.
+    unsafe { nimovalsa_factor(rate, year) }
 }

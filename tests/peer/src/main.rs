@@ -1,10 +1,11 @@
-//! Compares nimovalsa_check, nimovalsa_cost, nimovalsa_price, nimovalsa_plan and nimovalsa_budget
-//! of libnimovalsa.a with independent implementations of them on many sheets, arcs, plans and
-//! buffers, and the totals that are printed with the exact values of their chains.
+//! Compares nimovalsa_check, nimovalsa_cost, nimovalsa_price, nimovalsa_plan, nimovalsa_budget and
+//! nimovalsa_factor of libnimovalsa.a with independent implementations of them on many sheets,
+//! arcs, plans, buffers, rates and years, and the totals that are printed with the exact values of
+//! their chains, and factors with theirs.
 //!
-//! Use: peer [SEED [COUNT]]. Equal arguments give equal sheets, arcs, plans and buffers.
-//! COUNT is the number of sheets that are checked. They start as valid ones and then get values
-//! at, just below and just above the limits of the rules.
+//! Use: peer [SEED [COUNT]]. Equal arguments give equal sheets, arcs, plans, buffers, rates and
+//! years. COUNT is the number of sheets that are checked. They start as valid ones and then get
+//! values at, just below and just above the limits of the rules.
 //! Status: 0 if all answers agree and each possible answer was seen often enough, 1 if not,
 //! 2 for wrong arguments.
 #![deny(unsafe_code)]
@@ -21,12 +22,15 @@ mod check;
 mod compare;
 mod compare_budgets;
 mod compare_costs;
+mod compare_factors;
 mod compare_plans;
 mod compare_prices;
 mod cost;
 mod damaged;
 mod edits;
 mod exact;
+mod exact_factor;
+mod factor;
 mod lent;
 mod library;
 mod listing;
@@ -50,6 +54,7 @@ mod valid;
 use compare::compare_all;
 use compare_budgets::compare_budgets;
 use compare_costs::compare_costs;
+use compare_factors::compare_factors;
 use compare_plans::compare_plans;
 use compare_prices::compare_prices;
 use std::env;
@@ -92,6 +97,7 @@ fn perform(seed: u64, count: u64) -> Result<(), String> {
     println!("rust peer: {}", compare_prices(seed)?);
     println!("rust peer: {}", compare_plans(seed)?);
     println!("rust peer: {}", compare_budgets(seed)?);
+    println!("rust peer: {}", compare_factors(seed)?);
     Ok(())
 }
 
