@@ -10,9 +10,13 @@ largestRate = 200_000
 abbrev pub atOnce : ℕ
 atOnce = 1_000_000_000_000
 
+-- a plain step with f 0
+abbrev pub discounted : (rate a : ℕ) → ℕ
+discounted rate a = plain 1_000_000 (1_000_000 + rate) a
+
 -- The present-worth factor, which document 02 calls a factor, for a rate and a year: 10^12 after that many plain steps with f 0.
 unfoldable pub presentWorth : (rate year : ℕ) → ℕ
-presentWorth rate year = repeated year (plain 1_000_000 (1_000_000 + rate)) atOnce
+presentWorth rate year = repeated year (discounted rate) atOnce
 
 -- A factor against its exact value, 10^12 × (10^6 / (10^6 + rate))^year, both multiplied by (10^6 + rate)^year: never below it, and at most one
 -- for each year above it.

@@ -5,7 +5,6 @@
 -- Assumes nothing.
 use Prim.Native.Nat.{ℕ, _≤_, _<_}
 use mathlib.Core.Path.{_≡_, refl, sym, subst}
-use mathlib.Core.Bool.{Bool}
 use native.Mathlib.Omega.{arith}
 use lib.Dec.{leb}
 use borrow.Author.Tests.{leb-true, leb-false, le-leb, lt-leb}
@@ -56,8 +55,8 @@ module _ (rate year : ℕ) where
         four = (λ z. high, λ h. refl);
         thirteen = (λ z. absurd (omega arith), λ h. absurd (let l = h .0 in omega arith));
         option = refl;
-        none = λ d. refl;
-        factor = λ z. absurd (omega arith);
+        total = λ d. refl;
+        worth = λ z. absurd (omega arith);
         near = λ z. absurd (omega arith);
       })
       (λ low late.
@@ -66,8 +65,8 @@ module _ (rate year : ℕ) where
         four = (λ z. absurd (omega arith), λ h. absurd (omega arith));
         thirteen = (λ z. (low, late), λ h. refl);
         option = refl;
-        none = λ d. refl;
-        factor = λ z. absurd (omega arith);
+        total = λ d. refl;
+        worth = λ z. absurd (omega arith);
         near = λ z. absurd (omega arith);
       })
       (λ low soon.
@@ -76,8 +75,8 @@ module _ (rate year : ℕ) where
         four = (λ z. absurd (omega arith), λ h. absurd (omega arith));
         thirteen = (λ z. absurd (omega arith), λ h. absurd (let l = h .1 in omega arith));
         option = refl;
-        none = λ d. absurd (d refl);
-        factor = λ z. refl;
+        total = λ d. absurd (d refl);
+        worth = λ z. refl;
         near = λ z. presentWorth-near rate year;
       })
 

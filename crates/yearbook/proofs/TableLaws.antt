@@ -9,8 +9,7 @@ use native.Mathlib.Omega.{arith}
 use lib.ListN.{getD, drop}
 use lib.Seq.{getD-drop}
 use Rattle.base.proofs.TestLaws.{eqb-iff, both-iff}
-use Rattle.steps.specs.Step.{plain}
-use Rattle.factors.specs.PresentWorth.{atOnce, presentWorth}
+use Rattle.factors.specs.PresentWorth.{atOnce, discounted, presentWorth}
 use Rattle.factors.proofs.PresentWorthLaws.{presentWorth-zero, presentWorth-suc}
 use Rattle.yearbook.specs.Yearbook.{lastYear, usualRates, usualRate}
 use Rattle.yearbook.specs.Table.{areSteps, beginWith, holdFrom}
@@ -22,13 +21,13 @@ steps-read :
 steps-read rate zero year a xs e t y l = absurd (not-suc-le-zero l)
 steps-read rate (suc n) year a [] e t y l = absurd (false≢true t)
 steps-read rate (suc n) year a (x ∷ xs) e t zero l =
-    both-iff (eqb-iff x (plain 1_000_000 (1_000_000 + rate) a)) Iff·rfl .0 t .0
-    ∙ ap (plain 1_000_000 (1_000_000 + rate)) e
+    both-iff (eqb-iff x (discounted rate a)) Iff·rfl .0 t .0
+    ∙ ap (discounted rate) e
     ∙ sym (presentWorth-suc rate year)
     ∙ ap (presentWorth rate) (omega arith)
 steps-read rate (suc n) year a (x ∷ xs) e t (suc y) l =
-    let h = both-iff (eqb-iff x (plain 1_000_000 (1_000_000 + rate) a)) Iff·rfl .0 t in
-    let next = h .0 ∙ ap (plain 1_000_000 (1_000_000 + rate)) e ∙ sym (presentWorth-suc rate year) in
+    let h = both-iff (eqb-iff x (discounted rate a)) Iff·rfl .0 t in
+    let next = h .0 ∙ ap (discounted rate) e ∙ sym (presentWorth-suc rate year) in
     steps-read rate n (suc year) x xs next (h .1) y (le-of-suc-le-suc l) ∙ ap (presentWorth rate) (omega arith)
 
 -- one rate

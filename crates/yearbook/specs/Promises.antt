@@ -14,7 +14,7 @@ pub record PromisedFactor (rate year : ℕ) (a : Answer) : Type 0 where
   pub thirteen : (a .number ≡ 13) ↔ ((rate ≤ largestRate) × (lastYear < year))
   -- always option 3; with a refusal the factor is 0
   pub option : a .option ≡ 3
-  pub none : (a .number ≡ 0 → ⊥) → a .total ≡ 0
+  pub total : (a .number ≡ 0 → ⊥) → a .total ≡ 0
   -- an accepted call has the factor, looked up or stepped, near its exact value
-  pub factor : a .number ≡ 0 → a .total ≡ presentWorth rate year
+  pub worth : a .number ≡ 0 → a .total ≡ presentWorth rate year
   pub near : a .number ≡ 0 → FactorNear rate year (a .total)
