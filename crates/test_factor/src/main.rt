@@ -1,6 +1,7 @@
 // Runs `factor` and prints an answer a line; the file `stdout` beside `src` has the lines expected. The usual rates and those beside them, the
 // first and the last rates and years, and each way into refusals 4 and 13, at its limit and far above it.
 
+use test_sheets::show::answer_as;
 use test_sheets::show::number;
 
 const OUT: i32 = 1;
@@ -8,19 +9,11 @@ const OUT: i32 = 1;
 const FAR: u64 = 18_446_744_073_709_551_615;
 
 fn answer(rate: u64, year: u64) {
-    let a = yearbook::factor(rate, year);
     io::write_all(OUT, b"rate");
     number(rate);
     io::write_all(OUT, b" year");
     number(year);
-    if a.number == 0 {
-        io::write_all(OUT, b": factor");
-        number(a.total);
-    } else {
-        io::write_all(OUT, b": refused");
-        number(a.number as u64);
-        number(a.option as u64);
-    }
+    answer_as(b": factor", yearbook::factor(rate, year));
     io::write_all(OUT, b"\n");
 }
 

@@ -9,16 +9,21 @@ pub fn number(n: u64) {
     io::print_decimal(OUT, n);
 }
 
-// The total in units, or `refused` with the number and the option.
-pub fn answer(a: Answer) {
+// The total, after what it is called, or `refused` with the number and the option.
+pub fn answer_as(called: &[u8], a: Answer) {
     if a.number == 0 {
-        io::write_all(OUT, b": units");
+        io::write_all(OUT, called);
         number(a.total);
     } else {
         io::write_all(OUT, b": refused");
         number(a.number as u64);
         number(a.option as u64);
     }
+}
+
+// The total is in units.
+pub fn answer(a: Answer) {
+    answer_as(b": units", a);
 }
 
 // The same, and the line ends.
