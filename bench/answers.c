@@ -28,20 +28,25 @@ static const size_t word_counts[] = {0, 300, 301, 302, 601, 602};
 /* By kind of call: how many figures would be others if the motors of renovations were new. */
 static unsigned long with_old_motors[PLAN + 1];
 
+/* How many would be others without removals; of plans, how many chains. */
+static unsigned long with_removals[PLAN + 1];
+
 /* Counts the figure of a call if its renovation costs another one than a replacement with the same record,
  * whose motors are new. */
 static void count_motors(enum kind kind, struct bytes sheet, struct arc arc)
 {
     const struct planner *by = &planners[PLAIN];
-    uint8_t same[NIMOVALSA_SHEET_BYTES];
+    uint8_t same[NIMOVALSA_SHEET_2_BYTES];
+    uint8_t *renovate = record_in(same, sheet.length, RENOVATE);
+    uint8_t *replace = record_in(same, sheet.length, REPLACE);
     uint64_t old, new;
 
     if (arc.option != RENOVATE || arc.start == arc.end)
         return;
-    memcpy(same, sheet.at, sizeof same);
-    memcpy(record_of(same, REPLACE), record_of(same, RENOVATE), RECORD_BYTES);
-    old = by->cost(same, sizeof same, RENOVATE, arc.start, arc.end);
-    new = by->cost(same, sizeof same, REPLACE, arc.start, arc.end);
+    memcpy(same, sheet.at, sheet.length);
+    memcpy(replace, renovate, (size_t)(replace - renovate));
+    old = by->cost(same, sheet.length, RENOVATE, arc.start, arc.end);
+    new = by->cost(same, sheet.length, REPLACE, arc.start, arc.end);
     if (old != new)
         with_old_motors[kind]++;
 }
@@ -52,6 +57,38 @@ static void count_motors_of_plan(enum kind kind, struct bytes sheet, const uint8
     uint64_t i = (uint64_t)get16(plan + MAINTAINED), j = (uint64_t)get16(plan + RENOVATED);
 
     count_motors(kind, sheet, (struct arc){RENOVATE, i, j});
+}
+
+/* The same call on its sheet of version 2 without removals: the answer; a plan also goes to `written`. */
+static uint64_t compare_without_removals(struct call call, uint8_t *written)
+{
+    uint8_t sheet[NIMOVALSA_SHEET_2_BYTES];
+
+    memcpy(sheet, call.sheet.at, sizeof sheet);
+    for (size_t option = 0; option < OPTIONS; option++)
+        put_removal(sheet, option, 0, 0);
+    call.sheet.at = sheet;
+    return compare(&call, written);
+}
+
+/* Counts the cost or the price if it would be another one without removals. */
+static void count_removals(const struct call *call, uint64_t answer)
+{
+    if (call->sheet.length == NIMOVALSA_SHEET_2_BYTES && compare_without_removals(*call, NULL) != answer)
+        with_removals[call->kind]++;
+}
+
+/* Counts the plan if it would have another chain without removals. */
+static void count_removals_of_plan(const struct call *call, const uint8_t *plan)
+{
+    size_t chain = NIMOVALSA_PLAN_BYTES(get16(plan + REPLACEMENTS)) - MAINTAINED;
+    uint8_t other[LONGEST_PLAN];
+
+    if (call->sheet.length != NIMOVALSA_SHEET_2_BYTES)
+        return;
+    compare_without_removals(*call, other);
+    if (memcmp(plan + MAINTAINED, other + MAINTAINED, chain) != 0)
+        with_removals[PLAN]++;
 }
 
 /* A copy on the heap that ends where the bytes do. */
@@ -77,8 +114,10 @@ static uint64_t compare_price(struct bytes sheet, const uint8_t *plan, size_t le
     struct call call = pricing_of(sheet, copy);
     uint64_t answer = compare(&call, NULL);
 
-    if (nimovalsa_number(answer) == 0)
+    if (nimovalsa_number(answer) == 0) {
         count_motors_of_plan(PRICE, sheet, plan);
+        count_removals(&call, answer);
+    }
     dispose(copy);
     return answer;
 }
@@ -117,6 +156,7 @@ static size_t compare_plans(struct bytes sheet, uint8_t *plan)
         return 0;
 
     count_motors_of_plan(PLAN, sheet, plan);
+    count_removals_of_plan(&ample, plan);
     length = NIMOVALSA_PLAN_BYTES(get16(plan + REPLACEMENTS));
     compare_word_counts(sheet, length);
     compare_word_counts(sheet, length - 1);
@@ -128,7 +168,7 @@ static size_t compare_plans(struct bytes sheet, uint8_t *plan)
 /* Every call on a sheet that passes the checks. */
 static void compare_sheet(struct random *random, uint8_t *bytes)
 {
-    struct bytes sheet = copied(bytes, NIMOVALSA_SHEET_BYTES);
+    struct bytes sheet = copied(bytes, length_of(bytes));
     struct call check = checking_of(sheet);
     uint8_t plan[LONGEST_PLAN];
     size_t length;
@@ -142,9 +182,12 @@ static void compare_sheet(struct random *random, uint8_t *bytes)
         compare_prices(random, sheet, plan, draw_plan(random, plan, bytes));
     for (size_t k = 0; k < ARCS; k++) {
         struct call cost = costing_of(sheet, draw_arc(random, bytes));
+        uint64_t answer = compare(&cost, NULL);
 
-        if (nimovalsa_number(compare(&cost, NULL)) == 0)
+        if (nimovalsa_number(answer) == 0) {
             count_motors(COST, sheet, cost.arc);
+            count_removals(&cost, answer);
+        }
     }
     dispose(sheet);
 }
@@ -170,7 +213,7 @@ static void compare_damaged(struct random *random, uint8_t *bytes)
 static void compare_own_sheets(struct random *random)
 {
     static const int64_t horizons[] = {75, 150, 225, 300}, lives[] = {15, 30, 60, 90, 120};
-    uint8_t sheet[NIMOVALSA_SHEET_BYTES];
+    uint8_t sheet[NIMOVALSA_SHEET_2_BYTES];
 
     name_case("the paper's sheet");
     make_paper_sheet(sheet);
@@ -179,6 +222,9 @@ static void compare_own_sheets(struct random *random)
         for (size_t l = 0; l < COUNT(lives); l++) {
             name_case("full sheet, T = %d, lives up to %d", (int)horizons[h], (int)lives[l]);
             make_full_sheet(sheet, horizons[h], lives[l]);
+            compare_sheet(random, sheet);
+            name_case("the same with removals, T = %d, lives up to %d", (int)horizons[h], (int)lives[l]);
+            make_removal_sheet(sheet, horizons[h], lives[l]);
             compare_sheet(random, sheet);
         }
 }
@@ -202,26 +248,65 @@ static void expect_old_motors(void)
             stop("no %s tells old motors from new ones", kinds[kind]);
 }
 
-void compare_answers(void)
+/* Some figures of each kind of call, and some chains that are planned, would be others without removals. */
+static void expect_removals(void)
 {
-    struct random random = {20180301};
+    name_case("all calls");
+    for (enum kind kind = COST; kind <= PLAN; kind++)
+        if (with_removals[kind] == 0)
+            stop("no %s tells removals from none", kinds[kind]);
+}
+
+/* Of the generated sheets, those of each version. */
+static unsigned long drawn[3];
+
+static void draw_counted(struct random *random, uint8_t *sheet, const struct shape *shape)
+{
+    draw_sheet(random, sheet, shape);
+    drawn[get16(sheet + VERSION)]++;
+}
+
+static void compare_generated_sheets(struct random *random)
+{
     uint8_t sheet[LONGEST_SHEET] = {0};
 
-    compare_own_sheets(&random);
     for (size_t k = 0; k < COUNT(shapes); k++)
         for (unsigned count = 0; count < shapes[k].sheets; count++) {
             name_case("sheet %u of shape %s", count, shapes[k].shape.name);
-            draw_sheet(&random, sheet, &shapes[k].shape);
-            compare_sheet(&random, sheet);
+            draw_counted(random, sheet, &shapes[k].shape);
+            compare_sheet(random, sheet);
         }
     for (unsigned count = 0; count < DAMAGED_SHEETS; count++) {
         name_case("damaged sheet %u", count);
-        draw_sheet(&random, sheet, &shapes[count % 2].shape);
-        compare_damaged(&random, sheet);
+        draw_counted(random, sheet, &shapes[count % 2].shape);
+        compare_damaged(random, sheet);
     }
+}
+
+/* The versions are drawn half and half. */
+static void expect_both_versions(void)
+{
+    unsigned long all = drawn[1] + drawn[2];
+
+    name_case("all calls");
+    if (10 * drawn[1] < 4 * all || 10 * drawn[2] < 4 * all)
+        stop("%lu sheets of version 1 are drawn and %lu of version 2", drawn[1], drawn[2]);
+}
+
+/* What is expected of the calls is expected of those on generated sheets. */
+void compare_answers(void)
+{
+    struct random random = {20180301};
+
+    compare_generated_sheets(&random);
+    expect_both_versions();
     expect_every_number();
     expect_old_motors();
+    expect_removals();
+    compare_own_sheets(&random);
     printf("bench: %lu answers of the library and two C planners compared; "
-           "%lu costs, %lu prices and %lu plans would be others if renovating renewed the motors\n",
-           compared, with_old_motors[COST], with_old_motors[PRICE], with_old_motors[PLAN]);
+           "%lu costs, %lu prices and %lu plans would be others if renovating renewed the motors, "
+           "%lu costs, %lu prices and %lu plans without removals\n",
+           compared, with_old_motors[COST], with_old_motors[PRICE], with_old_motors[PLAN],
+           with_removals[COST], with_removals[PRICE], with_removals[PLAN]);
 }

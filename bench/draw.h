@@ -22,10 +22,10 @@ struct shape {
     int ages_fast; /* every ageing is the largest that passes, or one less */
 };
 
-/* A sheet that passes the checks, its fields often at a limit. Some options are not offered. */
-void draw_sheet(struct random *random, uint8_t *sheet, const struct shape *shape);
-
 enum { LONGEST_SHEET = 400 };
+
+/* A sheet of either version that passes the checks, its fields often at a limit. Some options are not offered. */
+void draw_sheet(struct random *random, uint8_t *sheet, const struct shape *shape);
 
 /* Edits a sheet, mostly so that a check fails, and answers its new length, LONGEST_SHEET at most. */
 size_t damage_sheet(struct random *random, uint8_t *sheet);

@@ -6,7 +6,7 @@
 /* A length that an option offers, mostly; or one beside it. */
 static int64_t draw_length(struct random *random, uint8_t *sheet, size_t option)
 {
-    const uint8_t *record = record_of(sheet, option);
+    const uint8_t *record = record_in(sheet, length_of(sheet), option);
 
     switch (within(random, 0, 7)) {
     case 0:
@@ -49,7 +49,7 @@ struct arc draw_arc(struct random *random, uint8_t *sheet)
 /* A length between an option's lives; 0 where it is not offered. */
 static int64_t draw_life(struct random *random, uint8_t *sheet, size_t option)
 {
-    const uint8_t *record = record_of(sheet, option);
+    const uint8_t *record = record_in(sheet, length_of(sheet), option);
 
     return near_an_end(random, get16(record + SHORTEST), get16(record + LONGEST));
 }

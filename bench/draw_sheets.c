@@ -81,6 +81,17 @@ static void draw_record(struct random *random, uint8_t *record, const struct sha
     draw_overhauls(random, record, shape);
 }
 
+/* The sheet becomes one of version 2. */
+static void draw_removals(struct random *random, uint8_t *sheet, const struct shape *shape, int64_t rate)
+{
+    lengthen(sheet);
+    for (size_t option = 0; option < OPTIONS; option++) {
+        int64_t amount = near_an_end(random, 0, shape->most_amount);
+
+        put_removal(sheet, option, amount, near_an_end(random, shape->least_inflation, rate));
+    }
+}
+
 void draw_sheet(struct random *random, uint8_t *sheet, const struct shape *shape)
 {
     int64_t rate = near_an_end(random, 0, shape->most_rate);
@@ -88,6 +99,8 @@ void draw_sheet(struct random *random, uint8_t *sheet, const struct shape *shape
     put_head(sheet, near_an_end(random, 1, shape->most_years), rate);
     for (size_t option = 0; option < OPTIONS; option++)
         draw_record(random, record_of(sheet, option), shape, rate);
+    if (within(random, 0, 1))
+        draw_removals(random, sheet, shape, rate);
 }
 
 struct edit {
@@ -96,9 +109,10 @@ struct edit {
 };
 
 static const struct edit head_edits[] = {
-    {MARK, 1, 'r'},    {MARK + 1, 1, 'c'}, {MARK + 2, 1, 'P'},  {VERSION, 2, 0},   {VERSION, 2, 257},
-    {HORIZON, 2, 0},   {HORIZON, 2, 301},  {HORIZON, 2, 65535}, {HORIZON, 2, 300}, {RATE, 4, 200000},
-    {RATE, 4, 200001}, {RATE, 4, -1},
+    {MARK, 1, 'r'},    {MARK + 1, 1, 'c'},  {MARK + 2, 1, 'P'}, {VERSION, 2, 0},   {VERSION, 2, 1},
+    {VERSION, 2, 2},   {VERSION, 2, 3},     {VERSION, 2, 257},  {VERSION, 2, 258}, {HORIZON, 2, 0},
+    {HORIZON, 2, 301}, {HORIZON, 2, 65535}, {HORIZON, 2, 300},  {RATE, 4, 200000}, {RATE, 4, 200001},
+    {RATE, 4, -1},
 };
 
 static const struct edit record_edits[] = {
@@ -127,6 +141,16 @@ static const struct edit record_edits[] = {
     {OVERHAUL(7) + AMOUNT, 4, 1},
 };
 
+/* Of a record of version 2. */
+static const struct edit removal_edits[] = {
+    {REMOVAL, 4, MOST_AMOUNT},
+    {REMOVAL, 4, MOST_AMOUNT + 1},
+    {REMOVAL, 4, -1},
+    {REMOVAL_INFLATION, 4, -100000},
+    {REMOVAL_INFLATION, 4, -100001},
+    {REMOVAL_INFLATION, 4, INT32_MIN},
+};
+
 static void apply(uint8_t *at, struct edit edit)
 {
     put(at + edit.at, edit.bytes, edit.value);
@@ -147,10 +171,23 @@ static void edit_rate(struct random *random, uint8_t *sheet, uint8_t *record)
     }
 }
 
-static void edit_sheet(struct random *random, uint8_t *sheet)
+/* A removal or its inflation at its limit or beyond. */
+static void edit_removal(struct random *random, uint8_t *sheet, uint8_t *record)
 {
-    uint8_t *record = record_of(sheet, (size_t)within(random, 0, OPTIONS - 1));
+    if (within(random, 0, 1))
+        apply(record, removal_edits[within(random, 0, COUNT(removal_edits) - 1)]);
+    else
+        put32(record + REMOVAL_INFLATION, get32(sheet + RATE) + within(random, 0, 1));
+}
 
+static void edit_sheet(struct random *random, uint8_t *sheet, size_t length)
+{
+    uint8_t *record = record_in(sheet, length, (size_t)within(random, 0, OPTIONS - 1));
+
+    if (length == NIMOVALSA_SHEET_2_BYTES && within(random, 0, 4) == 0) {
+        edit_removal(random, sheet, record);
+        return;
+    }
     switch (within(random, 0, 9)) {
     case 0:
         apply(sheet, head_edits[within(random, 0, COUNT(head_edits) - 1)]);
@@ -160,20 +197,30 @@ static void edit_sheet(struct random *random, uint8_t *sheet)
         edit_rate(random, sheet, record);
         break;
     case 3:
-        sheet[within(random, 0, NIMOVALSA_SHEET_BYTES - 1)] ^= (uint8_t)(1 << within(random, 0, 7));
+        sheet[within(random, 0, (int64_t)length - 1)] ^= (uint8_t)(1 << within(random, 0, 7));
         break;
     default:
         apply(record, record_edits[within(random, 0, COUNT(record_edits) - 1)]);
     }
 }
 
+/* Mostly the same length; or one of the two, or one beside it; or any. */
+static size_t damage_length(struct random *random, size_t length)
+{
+    int64_t near = within(random, 0, 1) ? NIMOVALSA_SHEET_BYTES : NIMOVALSA_SHEET_2_BYTES;
+
+    if (within(random, 0, 19) > 0)
+        return length;
+    if (within(random, 0, 1))
+        return (size_t)within(random, near - 1, near + 1);
+    return (size_t)within(random, 0, LONGEST_SHEET);
+}
+
 size_t damage_sheet(struct random *random, uint8_t *sheet)
 {
+    size_t length = length_of(sheet);
+
     for (int64_t left = within(random, 1, 3); left > 0; left--)
-        edit_sheet(random, sheet);
-    if (within(random, 0, 19) > 0)
-        return NIMOVALSA_SHEET_BYTES;
-    if (within(random, 0, 1))
-        return (size_t)within(random, NIMOVALSA_SHEET_BYTES - 1, NIMOVALSA_SHEET_BYTES + 1);
-    return (size_t)within(random, 0, LONGEST_SHEET);
+        edit_sheet(random, sheet, length);
+    return damage_length(random, length);
 }

@@ -13,6 +13,11 @@ int64_t get32(const uint8_t *at)
     return get16(at) + 65536 * get16(at + 2);
 }
 
+size_t length_of(const uint8_t *sheet)
+{
+    return get16(sheet + VERSION) == 2 ? NIMOVALSA_SHEET_2_BYTES : NIMOVALSA_SHEET_BYTES;
+}
+
 void make_full_sheet(uint8_t *sheet, int64_t horizon, int64_t longest)
 {
     static const size_t amounts[] = {INVESTMENT, MAINTENANCE, ELECTRICITY};
@@ -32,6 +37,14 @@ void make_full_sheet(uint8_t *sheet, int64_t horizon, int64_t longest)
         for (size_t entry = 0; entry < MOST_OVERHAULS; entry++)
             put_overhaul(record, entry, 14 + 15 * (int64_t)entry, MOST_AMOUNT);
     }
+}
+
+void make_removal_sheet(uint8_t *sheet, int64_t horizon, int64_t longest)
+{
+    make_full_sheet(sheet, horizon, longest);
+    lengthen(sheet);
+    put_removal(sheet, RENOVATE, MOST_AMOUNT, 10000);
+    put_removal(sheet, REPLACE, MOST_AMOUNT, 10000);
 }
 
 /* How many lengths from 1 on an option offers from a year. */

@@ -29,11 +29,17 @@ enum {
 int64_t get16(const uint8_t *at);
 int64_t get32(const uint8_t *at);
 
-/* Every option alike: lives from 1, all amounts 10^9, eight overhauls. */
+/* The length that goes with the version of a sheet. */
+size_t length_of(const uint8_t *sheet);
+
+/* Version 1, every option alike: lives from 1, all amounts 10^9, eight overhauls. */
 void make_full_sheet(uint8_t *sheet, int64_t horizon, int64_t longest);
 
-/* How many arcs a sheet that passes the checks offers to planning: maintain from year 0, renovate from each
- * end of these, both with length 0 as well, and replace from each year below T. */
+/* The same in version 2, with removals of 10^9 at renovate and replace as well. */
+void make_removal_sheet(uint8_t *sheet, int64_t horizon, int64_t longest);
+
+/* How many arcs a sheet of version 1 that passes the checks offers to planning: maintain from year 0, renovate
+ * from each end of these, both with length 0 as well, and replace from each year below T. */
 uint64_t arcs_offered(const uint8_t *sheet);
 
 /* The plan of a replacement in every year up to T; its length. */

@@ -39,7 +39,9 @@ static void print_head(void)
 /* ---- the calls ---- */
 
 static uint8_t paper_bytes[NIMOVALSA_SHEET_BYTES], full_bytes[NIMOVALSA_SHEET_BYTES];
-static const struct bytes paper = {paper_bytes, sizeof paper_bytes}, full = {full_bytes, sizeof full_bytes};
+static uint8_t removal_bytes[NIMOVALSA_SHEET_2_BYTES];
+static const struct bytes paper = {paper_bytes, sizeof paper_bytes}, full = {full_bytes, sizeof full_bytes},
+                          removal = {removal_bytes, sizeof removal_bytes};
 
 static struct call ample_planning_of(struct bytes sheet)
 {
@@ -77,6 +79,7 @@ static void print_plan_rows(void)
     print_row("plan (c), the same with T = 150", ample_planning_of(full));
     make_full_sheet(full_bytes, 75, 120);
     print_row("plan (c), the same with T = 75", ample_planning_of(full));
+    print_row("plan (d), (b) with removals, version 2", ample_planning_of(removal));
 }
 
 static void print_cost_rows(void)
@@ -97,7 +100,9 @@ static void print_price_rows(void)
     const struct {
         const char *name;
         struct bytes sheet;
-    } planned[] = {{"price of the plan of (a)", paper}, {"price of the plan of (b)", full}};
+    } planned[] = {{"price of the plan of (a)", paper},
+                   {"price of the plan of (b)", full},
+                   {"price of the plan of (d)", removal}};
 
     for (size_t k = 0; k < COUNT(planned); k++) {
         struct call call = ample_planning_of(planned[k].sheet);
@@ -171,6 +176,7 @@ static void print_growth(void)
 void print_tables(void)
 {
     make_paper_sheet(paper_bytes);
+    make_removal_sheet(removal_bytes, MOST_YEARS, MOST_LIFE);
     print_head();
     print_calls();
     print_growth();

@@ -27,12 +27,14 @@ enum { GENERAL_INFLATION = 20000 };
 /*
  * What the register holds of an option, in euros of year 0, years and
  * millionths a year. It may be kept for any number of years up to its life. An
- * overhaul is due after every period; with period 0 there are none.
+ * overhaul is due after every period; with period 0 there are none. Removal is
+ * paid where a renovation or a replacement ends before the horizon.
  */
 struct option {
     uint16_t life;
     uint32_t investment, maintenance, ageing, electricity, overhaul;
     uint16_t period;
+    uint32_t removal;
 };
 
 /* How many years the planner keeps each; replacements go on to the horizon. */
@@ -67,6 +69,7 @@ static const struct asset assets[] = {
                  .ageing = 5000, .electricity = 10000, .overhaul = 150000,
                  .period = 15},
      .habit = {.maintain = 15, .renovate = 30, .replace = 51}},
+    /* The estimates list removal, of the renovated lock and of a new one. */
     {.name = "lock, narrow chamber",
      .horizon = 200,
      .rate = 30000,
@@ -78,10 +81,10 @@ static const struct asset assets[] = {
                   .period = 8},
      .renovate = {.life = 40, .investment = 2500000, .maintenance = 60000,
                   .ageing = 15000, .electricity = 8000, .overhaul = 500000,
-                  .period = 15},
+                  .period = 15, .removal = 800000},
      .replace = {.life = 100, .investment = 9000000, .maintenance = 40000,
                  .ageing = 5000, .electricity = 6000, .overhaul = 400000,
-                 .period = 20},
+                 .period = 20, .removal = 1500000},
      .habit = {.maintain = 20, .renovate = 30, .replace = 75}},
     /* The habit is refused: the bridge cannot be maintained for 30 years. */
     {.name = "bridge, fixed span",
@@ -119,8 +122,8 @@ static const char *const options[] = {"maintain", "renovate", "replace"};
 
 /* What a refusal says, by its number. */
 static const char *const refusals[] = {
-    [1] = "the sheet is not 278 bytes long",
-    [2] = "the sheet's mark or version is wrong",
+    [1] = "the sheet is neither 278 nor 302 bytes long",
+    [2] = "the sheet's mark is wrong, or its version for its length",
     [3] = "the horizon is not from 1 to 300 years",
     [4] = "the discount rate is above 20 per cent",
     [5] = "the lives are not in order, or above 120 years",
@@ -170,15 +173,20 @@ static struct nimovalsa_record record_of(const struct asset *asset,
         .electricity = of->electricity,
         .electricity_inflation = asset->electricity_inflation,
         .overhaul_inflation = asset->investment_inflation,
+        .removal = of->removal,
+        .removal_inflation = asset->investment_inflation,
     };
 
     put_overhauls(&record, of);
     return record;
 }
 
-static void put_sheet(const struct asset *asset, uint8_t *bytes)
+/* Version 2 has a place for removals; with none it plans as version 1 does. */
+static void put_sheet(const struct asset *asset,
+                      uint8_t bytes[NIMOVALSA_SHEET_2_BYTES])
 {
     struct nimovalsa_sheet sheet = {
+        .version = 2,
         .horizon = asset->horizon,
         .rate = asset->rate,
         .options = {
@@ -264,7 +272,7 @@ static bool show_chain(const uint8_t *sheet,
         unsigned option = k < NIMOVALSA_REPLACE ? k : NIMOVALSA_REPLACE;
         uint16_t start = border(chain, k), end = border(chain, k + 1);
         uint64_t answer =
-            nimovalsa_cost(sheet, NIMOVALSA_SHEET_BYTES, option, start, end);
+            nimovalsa_cost(sheet, NIMOVALSA_SHEET_2_BYTES, option, start, end);
 
         if (refused(answer)) {
             print_refusal("arc", answer);
@@ -321,9 +329,9 @@ static bool show_budget(const uint8_t *sheet, const uint8_t *plan,
     uint64_t units[NIMOVALSA_BUDGET_UNITS], cents[NIMOVALSA_BUDGET_CENTS];
     unsigned last = NIMOVALSA_BUDGET_CENTS - 1;
     uint64_t answer = nimovalsa_budget(
-        sheet, NIMOVALSA_SHEET_BYTES, plan, NIMOVALSA_PLAN_BYTES(chain->count),
-        GENERAL_INFLATION, units, NIMOVALSA_BUDGET_UNITS, cents,
-        NIMOVALSA_BUDGET_CENTS);
+        sheet, NIMOVALSA_SHEET_2_BYTES, plan,
+        NIMOVALSA_PLAN_BYTES(chain->count), GENERAL_INFLATION, units,
+        NIMOVALSA_BUDGET_UNITS, cents, NIMOVALSA_BUDGET_CENTS);
 
     if (refused(answer)) {
         print_refusal("budget", answer);
@@ -377,7 +385,7 @@ static bool show_habit(const uint8_t *sheet, const struct asset *asset,
     uint8_t bytes[PLAN_BYTES];
     size_t length = nimovalsa_plan_encode(&chain, bytes, sizeof bytes);
     uint64_t answer =
-        nimovalsa_price(sheet, NIMOVALSA_SHEET_BYTES, bytes, length);
+        nimovalsa_price(sheet, NIMOVALSA_SHEET_2_BYTES, bytes, length);
 
     printf("  habit: maintain %u years, renovate %u, replace every %u\n",
            habit->maintain, habit->renovate, habit->replace);
@@ -394,8 +402,8 @@ static bool show_plan(const uint8_t *sheet, const struct asset *asset)
     uint8_t bytes[PLAN_BYTES];
     struct nimovalsa_chain chain;
     uint64_t answer =
-        nimovalsa_plan(sheet, NIMOVALSA_SHEET_BYTES, bytes, sizeof bytes, words,
-                       NIMOVALSA_PLAN_WORDS);
+        nimovalsa_plan(sheet, NIMOVALSA_SHEET_2_BYTES, bytes, sizeof bytes,
+                       words, NIMOVALSA_PLAN_WORDS);
 
     if (refused(answer)) {
         print_refusal("planning", answer);
@@ -410,7 +418,7 @@ static bool show_plan(const uint8_t *sheet, const struct asset *asset)
 
 static bool show_asset(const struct asset *asset)
 {
-    uint8_t sheet[NIMOVALSA_SHEET_BYTES];
+    uint8_t sheet[NIMOVALSA_SHEET_2_BYTES];
     uint64_t answer;
 
     printf("%s, %u years\n", asset->name, asset->horizon);

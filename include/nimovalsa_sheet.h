@@ -30,7 +30,8 @@ enum {
  * cent. Maintenance and electricity are amounts a year. An inflation is the
  * differential one, beyond general inflation. An ageing counts from the year in
  * which the option starts, that of renovate's electricity from year 0, as
- * renovating keeps the motors.
+ * renovating keeps the motors. The removal is paid where a renovation or a
+ * replacement ends before the horizon; that of maintain never is.
  */
 struct nimovalsa_overhaul {
     uint16_t age;
@@ -51,13 +52,19 @@ struct nimovalsa_record {
     int32_t overhaul_inflation;
     uint8_t overhaul_count;
     struct nimovalsa_overhaul overhauls[NIMOVALSA_OVERHAULS];
+    uint32_t removal;
+    int32_t removal_inflation;
 };
 
-/* The rate is the real discount rate, in millionths a year. */
+/*
+ * The rate is the real discount rate, in millionths a year. The version is 1 or
+ * 2, and 0 stands for 1; only a sheet of version 2 has a place for removals.
+ */
 struct nimovalsa_sheet {
     uint16_t horizon;
     uint32_t rate;
     struct nimovalsa_record options[NIMOVALSA_OPTIONS];
+    uint16_t version;
 };
 
 /*
@@ -78,8 +85,9 @@ struct nimovalsa_chain {
  * five bytes of a sheet and of a plan, as one number.
  */
 #define NIMOVALSA_HEAD_BYTES 5
-#define NIMOVALSA_SHEET_HEAD 0x01534352 /* "RCS", 1 */
-#define NIMOVALSA_PLAN_HEAD 0x01504352  /* "RCP", 1 */
+#define NIMOVALSA_SHEET_HEAD 0x01534352   /* "RCS", 1 */
+#define NIMOVALSA_SHEET_2_HEAD 0x02534352 /* "RCS", 2 */
+#define NIMOVALSA_PLAN_HEAD 0x01504352    /* "RCP", 1 */
 
 /* Writes the low bytes of value, the lowest first; answers the place behind. */
 static inline uint8_t *nimovalsa_put(uint8_t *at, size_t bytes, uint64_t value)
@@ -113,6 +121,7 @@ static inline uint8_t *nimovalsa_put_rate(uint8_t *at, int32_t rate)
     return nimovalsa_put(at, 4, (uint32_t)rate);
 }
 
+/* The 89 bytes that a record has in both versions. */
 static inline uint8_t *nimovalsa_put_record(uint8_t *at,
                                             const struct nimovalsa_record *of)
 {
@@ -137,23 +146,58 @@ static inline uint8_t *nimovalsa_put_record(uint8_t *at,
     return at;
 }
 
-/*
- * Writes all bytes of a sheet. It writes what the fields hold and refuses
- * nothing: nimovalsa_check does, and so does every other call. That goes for
- * overhauls at or past the count too: they are written as they are, and one
- * that is not zero is refused with number 9. So fill a struct from zeros.
- */
-static inline void nimovalsa_sheet_encode(const struct nimovalsa_sheet *sheet,
-                                          uint8_t bytes[NIMOVALSA_SHEET_BYTES])
+/* The eight bytes that version 2 has behind them. */
+static inline uint8_t *nimovalsa_put_removal(uint8_t *at,
+                                             const struct nimovalsa_record *of)
 {
+    at = nimovalsa_put(at, 4, of->removal);
+    return nimovalsa_put_rate(at, of->removal_inflation);
+}
+
+/* Whether the version has a place for what the fields hold. */
+static inline int nimovalsa_sheet_fits(const struct nimovalsa_sheet *sheet)
+{
+    size_t k;
+
+    for (k = 0; k < NIMOVALSA_OPTIONS; k++)
+        if (sheet->version < 2 && (sheet->options[k].removal != 0 ||
+                                   sheet->options[k].removal_inflation != 0))
+            return 0;
+    return sheet->version <= 2;
+}
+
+/*
+ * Writes all bytes of a sheet and answers how many they are, the length that
+ * every call wants: NIMOVALSA_SHEET_2_BYTES in version 2, else
+ * NIMOVALSA_SHEET_BYTES. It answers 0 and writes nothing if the version is
+ * above 2; or if it is not 2 and a removal or its inflation is not 0, as
+ * version 1 has no place for them and a plan without them would understate.
+ *
+ * It writes what the fields hold and refuses nothing else: nimovalsa_check
+ * does, and so does every other call. That goes for overhauls at or past the
+ * count too: they are written as they are, and one that is not zero is refused
+ * with number 9. So fill a struct from zeros.
+ */
+static inline size_t nimovalsa_sheet_encode(const struct nimovalsa_sheet *sheet,
+                                            uint8_t *bytes)
+{
+    const int removals = sheet->version == 2;
     uint8_t *at = bytes;
     size_t k;
 
-    at = nimovalsa_put(at, NIMOVALSA_HEAD_BYTES, NIMOVALSA_SHEET_HEAD);
+    if (!nimovalsa_sheet_fits(sheet))
+        return 0;
+    at = nimovalsa_put(at, NIMOVALSA_HEAD_BYTES,
+                       removals ? NIMOVALSA_SHEET_2_HEAD
+                                : NIMOVALSA_SHEET_HEAD);
     at = nimovalsa_put(at, 2, sheet->horizon);
     at = nimovalsa_put(at, 4, sheet->rate);
-    for (k = 0; k < NIMOVALSA_OPTIONS; k++)
+    for (k = 0; k < NIMOVALSA_OPTIONS; k++) {
         at = nimovalsa_put_record(at, &sheet->options[k]);
+        if (removals)
+            at = nimovalsa_put_removal(at, &sheet->options[k]);
+    }
+    return (size_t)(at - bytes);
 }
 
 /*

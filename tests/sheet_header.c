@@ -1,6 +1,7 @@
 /*
- * What include/nimovalsa_sheet.h writes and reads: sheets, against the fields
- * of tests/c; plans, encoded and decoded at every length, and with wrong bytes.
+ * What include/nimovalsa_sheet.h writes and reads: sheets of both versions,
+ * against the fields of tests/c, and what no version has a place for; plans,
+ * encoded and decoded at every length, and with wrong bytes.
  */
 #include "c/fields.h"
 
@@ -29,20 +30,29 @@ static void expect(int holds, const char *what)
     passed++;
 }
 
+/* So many bytes are written, and those behind them are left. */
 static void expect_sheet(const struct nimovalsa_sheet *sheet,
-                         const uint8_t *bytes, const char *what)
+                         const uint8_t *bytes, size_t length, const char *what)
 {
-    uint8_t encoded[NIMOVALSA_SHEET_BYTES];
+    uint8_t encoded[NIMOVALSA_SHEET_2_BYTES + 1], want[sizeof encoded];
 
     memset(encoded, 0xEE, sizeof encoded);
-    nimovalsa_sheet_encode(sheet, encoded);
-    expect(memcmp(encoded, bytes, sizeof encoded) == 0, what);
+    memset(want, 0xEE, sizeof want);
+    memcpy(want, bytes, length);
+    expect(nimovalsa_sheet_encode(sheet, encoded) == length,
+           "the length of a sheet is wrong");
+    expect(memcmp(encoded, want, sizeof encoded) == 0, what);
 }
 
-/* The paper's Table 1, in the order of the struct's fields. */
+/*
+ * The paper's Table 1, in the order of the struct's fields. Removals and
+ * version are left out, as in a program that does not know of them.
+ */
+#pragma GCC diagnostic push
+#pragma GCC diagnostic ignored "-Wmissing-field-initializers"
 static void encode_paper(void)
 {
-    static const struct nimovalsa_sheet paper = {
+    struct nimovalsa_sheet paper = {
         .horizon = 300,
         .rate = 40000,
         .options = {
@@ -60,11 +70,20 @@ static void encode_paper(void)
             },
         },
     };
-    uint8_t bytes[NIMOVALSA_SHEET_BYTES];
+    uint8_t bytes[NIMOVALSA_SHEET_2_BYTES];
 
     make_paper_sheet(bytes);
-    expect_sheet(&paper, bytes, "the paper's sheet has other bytes");
+    expect_sheet(&paper, bytes, NIMOVALSA_SHEET_BYTES,
+                 "the paper's sheet has other bytes");
+    paper.version = 1;
+    expect_sheet(&paper, bytes, NIMOVALSA_SHEET_BYTES,
+                 "the paper's sheet has other bytes in version 1");
+    paper.version = 2;
+    lengthen(bytes);
+    expect_sheet(&paper, bytes, NIMOVALSA_SHEET_2_BYTES,
+                 "the paper's sheet has other bytes in version 2");
 }
+#pragma GCC diagnostic pop
 
 /*
  * Fields that all differ, so that no two can be exchanged unseen. The encoder
@@ -87,6 +106,8 @@ static struct nimovalsa_record unlike_record(uint16_t option)
         .electricity_ageing = (uint32_t)base + 8,
         .overhaul_inflation = -base - 9,
         .overhaul_count = 1,
+        .removal = (uint32_t)base + 10,
+        .removal_inflation = -base - 11,
     };
 
     for (unsigned entry = 0; entry < NIMOVALSA_OVERHAULS; entry++) {
@@ -96,7 +117,7 @@ static struct nimovalsa_record unlike_record(uint16_t option)
     return record;
 }
 
-/* Writes a record at the places that fields.h has for its fields. */
+/* Writes the places that fields.h has for the fields of both versions. */
 static void put_record(uint8_t *at, const struct nimovalsa_record *record)
 {
     put_lives(at, record->shortest_life, record->longest_life);
@@ -115,17 +136,84 @@ static void put_record(uint8_t *at, const struct nimovalsa_record *record)
                      record->overhauls[entry].amount);
 }
 
+static struct nimovalsa_sheet unlike_sheet(void)
+{
+    struct nimovalsa_sheet sheet = {
+        .horizon = 0xABCD, .rate = 0xFEDCBA98, .version = 2};
+
+    for (uint16_t option = 0; option < OPTIONS; option++)
+        sheet.options[option] = unlike_record(option);
+    return sheet;
+}
+
+/* The same of another version, without removals. */
+static struct nimovalsa_sheet without_removals(uint16_t version)
+{
+    struct nimovalsa_sheet sheet = unlike_sheet();
+
+    sheet.version = version;
+    for (size_t option = 0; option < OPTIONS; option++) {
+        sheet.options[option].removal = 0;
+        sheet.options[option].removal_inflation = 0;
+    }
+    return sheet;
+}
+
 static void encode_unlike_fields(void)
 {
-    struct nimovalsa_sheet sheet = {.horizon = 0xABCD, .rate = 0xFEDCBA98};
-    uint8_t bytes[NIMOVALSA_SHEET_BYTES];
+    const struct nimovalsa_sheet sheet = unlike_sheet();
+    const struct nimovalsa_sheet shorter = without_removals(1);
+    uint8_t bytes[NIMOVALSA_SHEET_2_BYTES];
 
     put_head(bytes, sheet.horizon, sheet.rate);
-    for (uint16_t option = 0; option < OPTIONS; option++) {
-        sheet.options[option] = unlike_record(option);
+    for (size_t option = 0; option < OPTIONS; option++)
         put_record(record_of(bytes, option), &sheet.options[option]);
+    expect_sheet(&shorter, bytes, NIMOVALSA_SHEET_BYTES,
+                 "a field is written elsewhere");
+    lengthen(bytes);
+    for (size_t option = 0; option < OPTIONS; option++)
+        put_removal(bytes, option, sheet.options[option].removal,
+                    sheet.options[option].removal_inflation);
+    expect_sheet(&sheet, bytes, NIMOVALSA_SHEET_2_BYTES,
+                 "a field is written elsewhere in version 2");
+}
+
+/* Nothing is written, and 0 answered. */
+static void expect_no_sheet(const struct nimovalsa_sheet *sheet,
+                            const char *what)
+{
+    uint8_t encoded[NIMOVALSA_SHEET_2_BYTES], untouched[sizeof encoded];
+
+    memset(encoded, 0xEE, sizeof encoded);
+    memset(untouched, 0xEE, sizeof untouched);
+    expect(nimovalsa_sheet_encode(sheet, encoded) == 0, what);
+    expect(memcmp(encoded, untouched, sizeof encoded) == 0, what);
+}
+
+/* Versions 0 and 1 have no place for a removal or its inflation. */
+static void refuse_removals(uint16_t version)
+{
+    for (size_t option = 0; option < OPTIONS; option++) {
+        struct nimovalsa_sheet sheet = without_removals(version);
+
+        sheet.options[option].removal = 1;
+        expect_no_sheet(&sheet, "a removal is left out");
+        sheet.options[option].removal = 0;
+        sheet.options[option].removal_inflation = -1;
+        expect_no_sheet(&sheet, "the inflation of a removal is left out");
     }
-    expect_sheet(&sheet, bytes, "a field is written elsewhere");
+}
+
+/* There is no version above 2, also not without removals. */
+static void refuse_versions(void)
+{
+    static const uint16_t versions[] = {3, 256, 257, 258, 65535};
+
+    for (size_t k = 0; k < COUNT(versions); k++) {
+        const struct nimovalsa_sheet sheet = without_removals(versions[k]);
+
+        expect_no_sheet(&sheet, "a wrong version is encoded");
+    }
 }
 
 static struct nimovalsa_chain chain_of(uint16_t count)
@@ -232,6 +320,9 @@ int main(void)
 {
     encode_paper();
     encode_unlike_fields();
+    refuse_removals(0);
+    refuse_removals(1);
+    refuse_versions();
     encode_plan();
     for (uint16_t count = 0; count <= 3; count++)
         try_lengths(count);

@@ -96,12 +96,39 @@ void test_stack(const struct subject *subject);
 
 /* ---- sheets.c ---- */
 
+/* Makes a sheet of version 1, where there is room for one of version 2. */
 typedef void make_sheet(uint8_t *sheet);
+
+/* An option's; the inflation is in millionths a year. */
+struct removal {
+    int64_t amount, inflation;
+};
+
+/* A sheet of version 1 becomes one of version 2 with the removals of the three
+ * options; where they are NULL it stays what it is. */
+struct bytes put_removals(uint8_t *sheet, const struct removal *removals);
+
+/* The same of a sheet that is made first. */
+struct bytes put_sheet(uint8_t *sheet, make_sheet *make,
+                       const struct removal *removals);
+
+enum { VERSIONS = 2, LONGER_SHEET = NIMOVALSA_SHEET_2_BYTES };
+
+/* For each version removals with which a sheet pays what version 1 pays: none;
+ * and that of maintaining, which is never paid. */
+extern const struct removal *const unpaid[VERSIONS];
 
 make_sheet make_middle_sheet, make_limit_sheet, make_empty_sheet,
     make_case_9_sheet, make_case_10_sheet, make_case_11_sheet,
     make_case_12_sheet, make_six_year_sheet, make_three_year_sheet,
-    make_dear_sheet, make_motors_sheet;
+    make_dear_sheet, make_motors_sheet, make_free_four_year_sheet;
+
+/* Those of request 6's cases, on case 12 and on the free four years; of the six
+ * and the three years, with digits of their own; and of the dear sheet, as
+ * large as its payments. */
+extern const struct removal case_12_removals[OPTIONS],
+    four_year_removals[OPTIONS], digits_removals[OPTIONS],
+    dear_removals[OPTIONS];
 
 /* ---- steps.c: payments by the rules ---- */
 
@@ -123,6 +150,14 @@ uint64_t cents_in(const struct yearly *of, unsigned year, unsigned since,
 
 /* When what a payment is for was new: renovating keeps the motors of year 0. */
 unsigned new_in(unsigned option, size_t payment, unsigned start);
+
+/* Whether an activity pays removal, which it does in its end year. */
+int is_removed(unsigned option, unsigned start, unsigned end, unsigned horizon);
+
+/* What it then is: a plain step for each year. */
+uint64_t removal_units(const struct removal *of, unsigned year, uint64_t rate);
+uint64_t removal_cents(const struct removal *of, unsigned year,
+                       int64_t general);
 
 /* The payment is the field of its amount, MAINTENANCE or ELECTRICITY. */
 void put_yearly(uint8_t *record, size_t payment, const struct yearly *of);
@@ -263,9 +298,11 @@ struct bytes put_even_plan(uint8_t *plan, uint16_t years, uint16_t m);
 
 /* ---- budgets.c ---- */
 
-/* A chain on a sheet whose horizon is that of the ledger. */
+/* A chain on a sheet whose horizon is that of the ledger. Without removals the
+ * ledger is that of both versions. */
 struct budget_case {
     make_sheet *make;
+    const struct removal *removals;
     const char *name;
     struct chain chain;
     uint64_t general;
@@ -275,8 +312,9 @@ struct budget_case {
 extern const struct budget_case budget_cases[];
 extern const size_t budget_case_count;
 
-/* Makes the sheet and the plan of a case. */
-struct bytes put_budget_case(const struct budget_case *of, uint8_t *sheet,
+/* Makes the plan of a case, and its sheet with these removals. */
+struct input put_budget_case(const struct budget_case *of,
+                             const struct removal *removals, uint8_t *sheet,
                              uint8_t *plan);
 
 /* An accepted answer: the total is what the units add up to. */

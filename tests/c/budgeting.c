@@ -1,22 +1,29 @@
 /*
  * nimovalsa_budget by its refusals and buffers: in what order the refusals
- * come, lists of every length, where the buffers lie, and what is only read.
+ * come, lists of every length, where the buffers lie, and what is only read. On
+ * sheets of both versions.
  */
 #include "boundary.h"
 
 #include <inttypes.h>
 #include <string.h>
 
-static uint8_t sheet[NIMOVALSA_SHEET_BYTES];
+static uint8_t sheet[LONGER_SHEET];
 static uint8_t plan[LONGEST_LENT_PLAN];
 
 static const struct bytes no_bytes = {NULL, 0};
 
+/* Of the cases without removals every other one is of version 2. */
+static const struct removal *removals_of(const struct budget_case *of)
+{
+    return of->removals != NULL ? of->removals
+                                : unpaid[(of - budget_cases) % VERSIONS];
+}
+
 /* The case in lists that are just long enough. */
 static struct asked ask(const struct budget_case *of)
 {
-    struct input input = {{sheet, sizeof sheet},
-                          put_budget_case(of, sheet, plan)};
+    struct input input = put_budget_case(of, removals_of(of), sheet, plan);
 
     return (struct asked){input, of->general, units_needed(of->ledger.horizon),
                           cents_needed(of->ledger.horizon)};
@@ -75,7 +82,7 @@ static struct asked ask_with(const struct budget_case *of, unsigned faults)
     struct asked asked = ask(of);
 
     if (faults & FAULTY_SHEET)
-        put_lives(record_of(sheet, 1), 1, 121);
+        put_lives(record_in(sheet, asked.input.sheet.length, 1), 1, 121);
     if (faults & FAULTY_PLAN)
         asked.input.plan.length--;
     if (faults & HIGH_GENERAL)
@@ -99,7 +106,7 @@ static void test_order(void)
 }
 
 /* In some the low bits are those of a rate that is accepted. */
-static void test_high_generals(void)
+static void test_high_generals(const struct budget_case *of)
 {
     static const uint64_t generals[] = {
         50001,
@@ -113,7 +120,7 @@ static void test_high_generals(void)
         UINT64_MAX - 999999,
         UINT64_MAX,
     };
-    struct asked asked = ask(&budget_cases[0]);
+    struct asked asked = ask(of);
 
     for (size_t n = 0; n < COUNT(generals); n++) {
         name_case("general %" PRIu64, generals[n]);
@@ -170,19 +177,19 @@ static void test_every_length(const struct budget_case *of)
 
 /* ---- the memory ---- */
 
-static void test_null(void)
+static void test_null(const struct budget_case *of)
 {
-    struct asked asked = ask(&budget_cases[0]);
+    struct asked asked = ask(of);
 
     name_case("NULL with length 0 for both lists");
     asked.units_count = asked.cents_count = 0;
     expect_budget_with_null(asked, REFUSED_LISTS, NULL);
     name_case("NULL with length 0 for the units");
-    asked = ask(&budget_cases[0]);
+    asked = ask(of);
     asked.units_count = 0;
     expect_budget_with_null(asked, REFUSED_LISTS, NULL);
     name_case("NULL with length 0 for the cents");
-    asked = ask(&budget_cases[0]);
+    asked = ask(of);
     asked.cents_count = 0;
     expect_budget_with_null(asked, REFUSED_LISTS, NULL);
     name_case("NULL with length 0 for the plan");
@@ -194,9 +201,8 @@ static void test_null(void)
     expect_budget_with_null(asked, REFUSED_LENGTH, NULL);
 }
 
-static void test_alignments(void)
+static void test_alignments(const struct budget_case *of)
 {
-    const struct budget_case *of = &budget_cases[0];
     struct asked asked = ask(of);
 
     for (size_t of_sheet = 0; of_sheet < 8; of_sheet++)
@@ -209,12 +215,11 @@ static void test_alignments(void)
 }
 
 /* Sheet and plan stand in memory that may be written. */
-static void test_unchanged(void)
+static void test_unchanged(const struct budget_case *of)
 {
     static uint8_t sheet_before[sizeof sheet], plan_before[sizeof plan];
 
     for (unsigned faults = 0; faults <= ALL_FAULTS; faults++) {
-        const struct budget_case *of = &budget_cases[0];
         struct asked asked = ask_with(of, faults);
 
         name_case("sheet and plan unchanged by budgeting, faults %u", faults);
@@ -232,12 +237,12 @@ static void test_unchanged(void)
 
 /* The plan is 19 bytes of the sheet's first record, from its maintenance on:
  * i 0, j 59, m 0. Renovate is offered for 59 years, at 1. */
-static void test_overlap(void)
+static void test_overlap(const struct removal *removals)
 {
     static const struct ledger ledger = {59, {10000}, {100}};
     uint8_t *maintain = record_of(sheet, 0), *renovate = record_of(sheet, 1);
     struct bytes inside = {maintain + MAINTENANCE, 19};
-    struct asked asked = {{{sheet, sizeof sheet}, inside}, 50000, 60, 16};
+    struct asked asked = {{{NULL, 0}, inside}, 50000, 60, 16};
 
     name_case("budgeting, the plan inside the sheet");
     put_head(sheet, 59, 0);
@@ -245,6 +250,7 @@ static void test_overlap(void)
     put32(maintain + ELECTRICITY, INT64_C(59) << 24);
     put_lives(renovate, 59, 59);
     put32(renovate + INVESTMENT, 1);
+    asked.input.sheet = put_removals(sheet, removals);
     expect_budget_with_null(asked, PRICED(10000), &ledger);
 }
 
@@ -267,14 +273,16 @@ static void test_in_turn(void)
 void test_budgeting(void)
 {
     test_order();
-    test_high_generals();
     test_lists_of_cases();
     for (size_t n = 0; n < budget_case_count; n++)
         if (budget_cases[n].ledger.horizon <= 17)
             test_every_length(&budget_cases[n]);
-    test_null();
-    test_alignments();
-    test_unchanged();
-    test_overlap();
+    for (size_t n = 0; n < VERSIONS; n++) {
+        test_high_generals(&budget_cases[n]);
+        test_null(&budget_cases[n]);
+        test_alignments(&budget_cases[n]);
+        test_unchanged(&budget_cases[n]);
+        test_overlap(unpaid[n]);
+    }
     test_in_turn();
 }

@@ -1,7 +1,8 @@
 /*
  * nimovalsa_price by the plan's chain: feasible ones with the totals that
- * document 01's rules give them, steps rounded up and motors kept by renovating
- * as document 02 asks, and ones that each break a single rule.
+ * document 01's rules give them, steps rounded up, motors kept by renovating
+ * and removal paid at the end as document 02 asks, and ones that each break a
+ * single rule. On sheets of both versions.
  */
 #include "boundary.h"
 
@@ -91,6 +92,38 @@ static const struct chain_case case_12_chains[] = {
     {{0, 0, 3, {2, 5, 4}}, REFUSED_PLAN},
 };
 
+/* With request 6's removal: 3 more for each end but the last. */
+static const struct chain_case case_12_removed_chains[] = {
+    {{0, 0, 2, {2, 4}}, PRICED(270000)},
+    {{0, 0, 4, {1, 2, 3, 4}}, PRICED(530000)},
+    {{0, 0, 3, {1, 2, 4}}, PRICED(400000)},
+    {{0, 0, 3, {1, 3, 4}}, PRICED(400000)},
+    {{0, 0, 3, {2, 3, 4}}, PRICED(400000)},
+    {{0, 0, 2, {1, 4}}, PRICED(420000)},
+    {{0, 0, 2, {3, 4}}, PRICED(420000)},
+
+    {{0, 0, 1, {4}}, REFUSED_PLAN},
+    {{0, 0, 2, {2, 5}}, REFUSED_PLAN},
+};
+
+/* Nothing but request 6's removals is paid. */
+static const struct chain_case four_year_chains[] = {
+    {{0, 0, 2, {2, 4}}, PRICED(18124)},
+    /* 19,039 + 18,124 + 17,253 */
+    {{0, 0, 4, {1, 2, 3, 4}}, PRICED(54416)},
+    /* 9,712 + 18,124 */
+    {{0, 1, 2, {2, 4}}, PRICED(27836)},
+    /* 9,712 + 17,253 */
+    {{0, 1, 2, {3, 4}}, PRICED(26965)},
+    {{0, 2, 1, {4}}, PRICED(9432)},
+    {{1, 2, 1, {4}}, PRICED(9432)},
+    {{1, 3, 1, {4}}, PRICED(9160)},
+    {{1, 1, 2, {2, 4}}, PRICED(18124)},
+    {{1, 1, 2, {3, 4}}, PRICED(17253)},
+    {{2, 2, 1, {4}}, ACCEPTED},
+    {{2, 4, 0, {0}}, ACCEPTED},
+};
+
 /* In year t a tenth of the value is gone t times, which is written 0.9^t:
  *   maintain 0 to n   1 + 10 n
  *   renovate, n       100 * 0.9^t + 1,000 n
@@ -172,6 +205,29 @@ static const struct chain_case six_year_chains[] = {
     {{0, 0, 3, {65533, 3, 6}}, REFUSED_PLAN},
 };
 
+/* With removals: a renovation that ends in year u before T pays 10,000,000 *
+ * 0.9^u more, a replacement 100,000,000. */
+static const struct chain_case six_year_removed_chains[] = {
+    /* 2,526,100 + 200,000,000 */
+    {{0, 0, 3, {2, 4, 6}}, PRICED(2025261000000)},
+    /* 1,789,000 + 100,000,000 */
+    {{0, 0, 2, {3, 6}}, PRICED(1017890000000)},
+    /* 1,508,200 + 8,100,000 + 100,000,000 */
+    {{0, 2, 2, {4, 6}}, PRICED(1096082000000)},
+    /* 1,606,111 + 100,000,000 */
+    {{1, 1, 2, {4, 6}}, PRICED(1016061110000)},
+    /* 761,101 + 7,290,000 */
+    {{1, 3, 1, {6}}, PRICED(80511010000)},
+    /* 678,202 + 6,561,000 */
+    {{2, 4, 1, {6}}, PRICED(72392020000)},
+    /* 677,203.9 + 6,561,000 */
+    {{3, 4, 1, {6}}, PRICED(72382039000)},
+    {{3, 3, 1, {6}}, PRICED(7590310000)},
+
+    {{3, 5, 0, {0}}, REFUSED_PLAN},
+    {{0, 0, 2, {2, 6}}, REFUSED_PLAN},
+};
+
 /* Each year electricity, 1,000 in every option, keeps 0.9 of its value, and
  * 0.99 in service; so does the maintenance of renovating, 10. A renovation
  * costs 100 and keeps the motors of year 0; a replacement costs 200. */
@@ -188,7 +244,8 @@ static const struct chain_case motors_chains[] = {
     {{1, 1, 2, {2, 4}}, PRICED(38767810)},
 };
 
-/* Chains without replacements: j is T. */
+/* Chains without replacements: j is T. No removal is paid, as maintaining pays
+ * none and every other activity ends at T. */
 static const struct chain_case three_year_chains[] = {
     /* 31; 21 + 1,081; 11 + 2,090 */
     {{3, 3, 0, {0}}, PRICED(310000)},   {{2, 3, 0, {0}}, PRICED(11020000)},
@@ -249,6 +306,13 @@ static const struct chain_case dear_chains[] = {
     {{0, 0, 5, {60, 120, 180, 240, 300}}, PRICED(6450000000000000)},
 };
 
+/* With removals of 10^13 units: one for each end but the last, and none for
+ * maintaining. */
+static const struct chain_case dear_removed_chains[] = {
+    {{120, 240, 1, {300}}, PRICED(6280000000000000)},
+    {{0, 0, 5, {60, 120, 180, 240, 300}}, PRICED(6490000000000000)},
+};
+
 /* The paper's case study; its Table 5 has the first chain, and costing.c its
  * arcs. */
 static const struct chain_case paper_chains[] = {
@@ -262,15 +326,17 @@ static const struct chain_case paper_chains[] = {
 
 /* ---- the cases ---- */
 
-static void test_chains_of(make_sheet *make, const char *name,
-                           const struct chain_case *cases, size_t count)
+static void test_removed_chains_of(make_sheet *make,
+                                   const struct removal *removals,
+                                   const char *name,
+                                   const struct chain_case *cases, size_t count)
 {
-    static uint8_t sheet[NIMOVALSA_SHEET_BYTES], plan[LONGEST_PLAN];
+    static uint8_t sheet[LONGER_SHEET], plan[LONGEST_PLAN];
+    struct bytes whole = put_sheet(sheet, make, removals);
 
-    make(sheet);
     for (size_t n = 0; n < count; n++) {
         const struct chain *chain = &cases[n].chain;
-        struct input input = {{sheet, sizeof sheet}, put_plan(plan, chain)};
+        struct input input = {whole, put_plan(plan, chain)};
 
         name_case("%s, chain %zu: i %u, j %u, m %u, first end %u", name, n,
                   chain->i, chain->j, chain->m, chain->ends[0]);
@@ -278,22 +344,39 @@ static void test_chains_of(make_sheet *make, const char *name,
     }
 }
 
-/* But for rounding, no total is larger: three payments of 10^13 units in each
- * of 300 years, an investment and two yearly ones. */
-static void test_largest_total(void)
+/* In both versions. */
+static void test_chains_of(make_sheet *make, const char *name,
+                           const struct chain_case *cases, size_t count)
 {
-    static uint8_t sheet[NIMOVALSA_SHEET_BYTES], plan[LONGEST_PLAN];
+    for (size_t n = 0; n < VERSIONS; n++)
+        test_removed_chains_of(make, unpaid[n], name, cases, count);
+}
+
+/* But for rounding, no total is larger in its version: three payments of 10^13
+ * units in each of 300 years, an investment and two yearly ones; and as many
+ * removals as there are ends before T. */
+static void test_largest_totals(void)
+{
+    static uint8_t sheet[LONGER_SHEET], plan[LONGEST_PLAN];
+    struct bytes yearly = put_even_plan(plan, 1, 300);
 
     name_case("largest total");
-    make_dear_sheet(sheet);
     expect_answer(
         &pricing,
-        (struct input){{sheet, sizeof sheet}, put_even_plan(plan, 1, 300)},
+        (struct input){put_sheet(sheet, make_dear_sheet, NULL), yearly},
         PRICED(9000000000000000));
+    expect_answer(&pricing,
+                  (struct input){
+                      put_sheet(sheet, make_dear_sheet, dear_removals), yearly},
+                  PRICED(11990000000000000));
 }
 
 #define TEST_CHAINS(name, cases)                                               \
     test_chains_of(make_##name##_sheet, #name, cases, COUNT(cases))
+
+#define TEST_REMOVED_CHAINS(name, removals, cases)                             \
+    test_removed_chains_of(make_##name##_sheet, removals, #name ", removed",   \
+                           cases, COUNT(cases))
 
 void test_chains(void)
 {
@@ -307,5 +390,10 @@ void test_chains(void)
     TEST_CHAINS(limit, limit_chains);
     TEST_CHAINS(dear, dear_chains);
     TEST_CHAINS(paper, paper_chains);
-    test_largest_total();
+    TEST_REMOVED_CHAINS(case_12, case_12_removals, case_12_removed_chains);
+    TEST_REMOVED_CHAINS(free_four_year, four_year_removals, four_year_chains);
+    TEST_REMOVED_CHAINS(six_year, digits_removals, six_year_removed_chains);
+    TEST_REMOVED_CHAINS(three_year, digits_removals, three_year_chains);
+    TEST_REMOVED_CHAINS(dear, dear_removals, dear_removed_chains);
+    test_largest_totals();
 }

@@ -1,7 +1,8 @@
 /*
- * nimovalsa_cost on arcs with and without fault. Each answer is compared with
- * the refusal table and the costs of document 01, steps rounded up and motors
- * kept by renovating as document 02 asks.
+ * nimovalsa_cost on arcs with and without fault, of sheets of both versions.
+ * Each answer is compared with the refusal table and the costs of document 01,
+ * steps rounded up, motors kept by renovating and removal paid at the end as
+ * document 02 asks.
  */
 #include "boundary.h"
 
@@ -243,6 +244,51 @@ static const struct arc_case empty_arcs[] = {
     {{2, 0, 0}, REFUSED_ARC}, {{2, 0, 1}, REFUSED_ARC},
 };
 
+/* On case 12's sheet with request 6's removal: a year costs 11, two 12 and
+ * three 28, and 3 more before year 4. */
+static const struct arc_case case_12_arcs[] = {
+    {{2, 0, 1}, PRICED(140000)}, {{2, 0, 2}, PRICED(150000)},
+    {{2, 0, 3}, PRICED(310000)}, {{2, 1, 2}, PRICED(140000)},
+    {{2, 1, 3}, PRICED(150000)}, {{2, 1, 4}, PRICED(280000)},
+    {{2, 2, 3}, PRICED(140000)}, {{2, 2, 4}, PRICED(120000)},
+    {{2, 3, 4}, PRICED(110000)}, {{2, 0, 4}, REFUSED_ARC},
+};
+
+/* On the free four years, with request 6's removals. */
+static const struct arc_case four_year_arcs[] = {
+    {{0, 0, 0}, ACCEPTED},      {{0, 0, 1}, ACCEPTED},
+    {{0, 0, 2}, ACCEPTED},      {{1, 0, 1}, PRICED(9712)},
+    {{1, 0, 2}, PRICED(9432)},  {{1, 1, 2}, PRICED(9432)},
+    {{1, 1, 3}, PRICED(9160)},  {{1, 2, 3}, PRICED(9160)},
+    {{1, 2, 4}, ACCEPTED},      {{1, 3, 4}, ACCEPTED},
+    {{1, 0, 0}, ACCEPTED},      {{1, 1, 1}, ACCEPTED},
+    {{1, 3, 3}, ACCEPTED},      {{1, 4, 4}, ACCEPTED},
+    {{2, 0, 1}, PRICED(19039)}, {{2, 0, 2}, PRICED(18124)},
+    {{2, 1, 2}, PRICED(18124)}, {{2, 1, 3}, PRICED(17253)},
+    {{2, 2, 3}, PRICED(17253)}, {{2, 2, 4}, ACCEPTED},
+    {{2, 3, 4}, ACCEPTED},      {{2, 1, 1}, REFUSED_ARC},
+};
+
+/* Without a removal of their own they are free, whatever the bytes behind
+ * a record of version 1 are. */
+static const struct arc_case free_arcs[] = {
+    {{0, 0, 1}, ACCEPTED}, {{0, 0, 2}, ACCEPTED}, {{1, 0, 1}, ACCEPTED},
+    {{1, 1, 2}, ACCEPTED}, {{1, 1, 3}, ACCEPTED}, {{1, 2, 4}, ACCEPTED},
+    {{2, 0, 1}, ACCEPTED}, {{2, 1, 3}, ACCEPTED}, {{2, 2, 4}, ACCEPTED},
+};
+
+/* On the dear sheet: payments of 10^13 units, removals too. 249 in 120 years
+ * (an investment, eight overhauls, 240 yearly ones), and one before T. */
+static const struct arc_case dear_arcs[] = {
+    {{0, 0, 120}, PRICED(2490000000000000)},
+    {{1, 179, 299}, PRICED(2500000000000000)},
+    {{1, 180, 300}, PRICED(2490000000000000)},
+    {{2, 179, 299}, PRICED(2500000000000000)},
+    {{2, 180, 300}, PRICED(2490000000000000)},
+    {{2, 298, 299}, PRICED(40000000000000)},
+    {{2, 299, 300}, PRICED(30000000000000)},
+};
+
 static void expect_named(const char *name, struct arc now, struct bytes sheet,
                          uint64_t answer)
 {
@@ -251,20 +297,28 @@ static void expect_named(const char *name, struct arc now, struct bytes sheet,
     expect(now, sheet, answer);
 }
 
+static void test_removed_arcs(make_sheet *make, const struct removal *removals,
+                              const char *name, const struct arc_case *cases,
+                              size_t count)
+{
+    uint8_t sheet[LONGER_SHEET];
+    struct bytes whole = put_sheet(sheet, make, removals);
+
+    for (size_t i = 0; i < count; i++)
+        expect_named(name, cases[i].arc, whole, cases[i].answer);
+}
+
+/* In both versions. */
 static void test_arcs(make_sheet *make, const char *name,
                       const struct arc_case *cases, size_t count)
 {
-    uint8_t sheet[NIMOVALSA_SHEET_BYTES];
-
-    make(sheet);
-    for (size_t i = 0; i < count; i++)
-        expect_named(name, cases[i].arc, (struct bytes){sheet, sizeof sheet},
-                     cases[i].answer);
+    for (size_t n = 0; n < VERSIONS; n++)
+        test_removed_arcs(make, unpaid[n], name, cases, count);
 }
 
 /* The paper's case study: what its five replacements cost in units, and in the
  * paper's Table 5 in euros, from which each lies less than a euro. */
-static void test_paper_arcs(void)
+static void test_paper_arcs(const struct removal *removals)
 {
     static const struct {
         uint64_t units, euros;
@@ -272,15 +326,14 @@ static void test_paper_arcs(void)
         {32376325834, 3237632}, {5476429609, 547643}, {936951814, 93695},
         {161521417, 16152},     {27986885, 2798},
     };
-    uint8_t sheet[NIMOVALSA_SHEET_BYTES];
+    uint8_t sheet[LONGER_SHEET];
+    struct bytes whole = put_sheet(sheet, make_paper_sheet, removals);
 
-    make_paper_sheet(sheet);
     for (size_t n = 0; n < COUNT(arcs); n++) {
         uint64_t units = arcs[n].units, paper = arcs[n].euros * 10000;
 
         name_case("paper, replacement %zu", n);
-        expect((struct arc){2, 60 * n, 60 * n + 60},
-               (struct bytes){sheet, sizeof sheet}, PRICED(units));
+        expect((struct arc){2, 60 * n, 60 * n + 60}, whole, PRICED(units));
         stop_unless(units < paper + 10000 && paper < units + 10000,
                     "comparison with Table 5");
     }
@@ -295,7 +348,8 @@ struct terms {
     struct yearly maintenance, electricity;
 };
 
-static struct bytes put_terms(uint8_t *sheet, const struct terms *of)
+static struct bytes put_terms(uint8_t *sheet, const struct terms *of,
+                              const struct removal *removals)
 {
     put_head(sheet, 300, of->rate);
     for (unsigned option = 0; option < OPTIONS; option++) {
@@ -305,10 +359,10 @@ static struct bytes put_terms(uint8_t *sheet, const struct terms *of)
         put_yearly(record, MAINTENANCE, &of->maintenance);
         put_yearly(record, ELECTRICITY, &of->electricity);
     }
-    return (struct bytes){sheet, NIMOVALSA_SHEET_BYTES};
+    return put_removals(sheet, removals);
 }
 
-/* What an arc costs by steps.c. */
+/* What an arc costs by steps.c, but for removal. */
 static uint64_t stepped_cost(const struct terms *of, struct arc now)
 {
     unsigned option = (unsigned)now.option, start = (unsigned)now.start;
@@ -323,21 +377,35 @@ static uint64_t stepped_cost(const struct terms *of, struct arc now)
     return cost;
 }
 
-static void test_starts_of(const struct terms *of, uint64_t length)
+static uint64_t stepped_removal(const struct terms *of,
+                                const struct removal *removals, struct arc now)
 {
-    uint8_t sheet[NIMOVALSA_SHEET_BYTES];
-    struct bytes whole = put_terms(sheet, of);
+    unsigned option = (unsigned)now.option, end = (unsigned)now.end;
+
+    if (removals == NULL || !is_removed(option, (unsigned)now.start, end, 300))
+        return 0;
+    return removal_units(&removals[option], end, (uint64_t)of->rate);
+}
+
+static void test_starts_of(const struct terms *of,
+                           const struct removal *removals, uint64_t length)
+{
+    uint8_t sheet[LONGER_SHEET];
+    struct bytes whole = put_terms(sheet, of, removals);
 
     for (uint64_t start = 0; start + length <= 300; start++)
         for (uint64_t option = start == 0 ? 0 : 1; option < OPTIONS; option++) {
             struct arc now = {option, start, start + length};
 
-            expect_named(of->name, now, whole, PRICED(stepped_cost(of, now)));
+            expect_named(of->name, now, whole,
+                         PRICED(stepped_cost(of, now) +
+                                stepped_removal(of, removals, now)));
         }
 }
 
 /* The ageing sheet's rates; rates that all differ; ageings at their limits: 30
- * per cent, and what the inflation leaves of the discount. */
+ * per cent, and what the inflation leaves of the discount. In version 2 with
+ * removals, the largest kept level where r is 30,000. */
 static void test_starts(void)
 {
     static const struct terms terms[] = {
@@ -349,10 +417,14 @@ static void test_starts(void)
          {1000000000, -100000, 300000}},
         {"full", 30000, {999999999, 0, 30000}, {1000000000, -50000, 84210}},
     };
+    static const struct removal removals[OPTIONS] = {
+        {999, 100}, {1000000000, 30000}, {7, -2000}};
 
     for (size_t n = 0; n < COUNT(terms); n++) {
-        test_starts_of(&terms[n], 1);
-        test_starts_of(&terms[n], 17);
+        test_starts_of(&terms[n], NULL, 1);
+        test_starts_of(&terms[n], NULL, 17);
+        test_starts_of(&terms[n], removals, 1);
+        test_starts_of(&terms[n], removals, 17);
     }
 }
 
@@ -375,11 +447,11 @@ static uint64_t level_cost(const struct level *of, struct arc now)
     return cost;
 }
 
-static void test_level(const struct level *of)
+static void test_level(const struct level *of, const struct removal *removals)
 {
     static const uint64_t lengths[] = {0, 1, 2, 119, 120};
-    uint8_t sheet[NIMOVALSA_SHEET_BYTES];
-    struct bytes whole = put_terms(sheet, &of->terms);
+    uint8_t sheet[LONGER_SHEET];
+    struct bytes whole = put_terms(sheet, &of->terms, removals);
 
     for (size_t n = 0; n < COUNT(lengths); n++)
         for (uint64_t start = 0; start + lengths[n] <= 300; start++) {
@@ -406,8 +478,10 @@ static void test_levels(void)
          0},
     };
 
-    for (size_t n = 0; n < COUNT(levels); n++)
-        test_level(&levels[n]);
+    for (size_t n = 0; n < COUNT(levels); n++) {
+        test_level(&levels[n], unpaid[0]);
+        test_level(&levels[n], unpaid[1]);
+    }
 }
 
 /* ---- the memory ---- */
@@ -421,18 +495,29 @@ static void test_null(void)
 }
 
 /* The sheet stands in memory that may be written. */
-static void test_sheet_unchanged(void)
+static void test_sheet_unchanged(const struct removal *removals)
 {
     const struct arc_case *longest = &limit_arcs[0];
-    uint8_t sheet[NIMOVALSA_SHEET_BYTES], before[NIMOVALSA_SHEET_BYTES];
+    uint8_t sheet[LONGER_SHEET], before[LONGER_SHEET];
+    struct bytes whole = put_sheet(sheet, make_limit_sheet, removals);
 
     name_case("sheet unchanged by costing");
-    make_limit_sheet(sheet);
-    memcpy(before, sheet, sizeof sheet);
+    memcpy(before, sheet, whole.length);
     arc = longest->arc;
-    expect_answer_here(&costing, (struct input){.sheet = {sheet, sizeof sheet}},
+    expect_answer_here(&costing, (struct input){.sheet = whole},
                        longest->answer);
-    stop_unless(memcmp(before, sheet, sizeof sheet) == 0, "comparison");
+    stop_unless(memcmp(before, sheet, whole.length) == 0, "comparison");
+}
+
+static void test_removed(void)
+{
+    test_removed_arcs(make_case_12_sheet, case_12_removals, "case 12, removed",
+                      case_12_arcs, COUNT(case_12_arcs));
+    test_removed_arcs(make_free_four_year_sheet, four_year_removals,
+                      "four years, removed", four_year_arcs,
+                      COUNT(four_year_arcs));
+    test_removed_arcs(make_dear_sheet, dear_removals, "dear sheet, removed",
+                      dear_arcs, COUNT(dear_arcs));
 }
 
 void test_costing(void)
@@ -450,9 +535,14 @@ void test_costing(void)
               "ageing sheet with maintenance", maintained_arcs,
               COUNT(maintained_arcs));
     test_arcs(make_empty_sheet, "empty sheet", empty_arcs, COUNT(empty_arcs));
-    test_paper_arcs();
+    test_arcs(make_free_four_year_sheet, "free four years", free_arcs,
+              COUNT(free_arcs));
+    test_removed();
     test_starts();
     test_levels();
     test_null();
-    test_sheet_unchanged();
+    for (size_t n = 0; n < VERSIONS; n++) {
+        test_paper_arcs(unpaid[n]);
+        test_sheet_unchanged(unpaid[n]);
+    }
 }

@@ -23,9 +23,17 @@ void put32(uint8_t *at, int64_t value)
     put(at, 4, value);
 }
 
+uint8_t *record_in(uint8_t *sheet, size_t length, size_t option)
+{
+    size_t bytes =
+        length == NIMOVALSA_SHEET_2_BYTES ? LONG_RECORD_BYTES : RECORD_BYTES;
+
+    return sheet + RECORDS + bytes * option;
+}
+
 uint8_t *record_of(uint8_t *sheet, size_t option)
 {
-    return sheet + RECORDS + RECORD_BYTES * option;
+    return record_in(sheet, NIMOVALSA_SHEET_BYTES, option);
 }
 
 void put_head(uint8_t *sheet, int64_t horizon, int64_t rate)
@@ -47,6 +55,27 @@ void put_overhaul(uint8_t *record, size_t entry, int64_t age, int64_t amount)
 {
     put16(record + OVERHAUL(entry) + AGE, age);
     put32(record + OVERHAUL(entry) + AMOUNT, amount);
+}
+
+/* From the last record on, since each moves over the next one's old place. */
+void lengthen(uint8_t *sheet)
+{
+    for (size_t option = OPTIONS; option-- > 0;) {
+        uint8_t *longer = record_in(sheet, NIMOVALSA_SHEET_2_BYTES, option);
+
+        memmove(longer, record_of(sheet, option), RECORD_BYTES);
+        memset(longer + RECORD_BYTES, 0, LONG_RECORD_BYTES - RECORD_BYTES);
+    }
+    put16(sheet + VERSION, 2);
+}
+
+void put_removal(uint8_t *sheet, size_t option, int64_t amount,
+                 int64_t inflation)
+{
+    uint8_t *record = record_in(sheet, NIMOVALSA_SHEET_2_BYTES, option);
+
+    put32(record + REMOVAL, amount);
+    put32(record + REMOVAL_INFLATION, inflation);
 }
 
 /* What differs from option to option in the paper's Table 1. */

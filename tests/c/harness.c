@@ -25,9 +25,20 @@ enum { STACK_BYTES = 2 * 64 * 1024 };
 
 /* ---- failure ---- */
 
-/* The case that runs now, and the line that a memory fault in it prints. */
+/* The case that runs now, the length of the sheet that it passed last, and the
+ * line that a memory fault in it prints. */
 static char case_name[128];
-static char fault_line[256];
+static size_t sheet_length;
+static char fault_line[320];
+
+static void name_fault(void)
+{
+    snprintf(fault_line, sizeof fault_line,
+             "c boundary: %s: sheet of %zu bytes: memory fault: an access "
+             "outside the buffers, a write to one that is only read, or too "
+             "much stack\n",
+             case_name, sheet_length);
+}
 
 void name_case(const char *format, ...)
 {
@@ -36,16 +47,21 @@ void name_case(const char *format, ...)
     va_start(words, format);
     vsnprintf(case_name, sizeof case_name, format, words);
     va_end(words);
-    snprintf(fault_line, sizeof fault_line,
-             "c boundary: %s: memory fault: an access outside the buffers, "
-             "a write to one that is only read, or too much stack\n",
-             case_name);
+    name_fault();
+}
+
+/* The versions of a sheet share a case's name; the length tells them apart. */
+static void name_sheet(size_t length)
+{
+    sheet_length = length;
+    name_fault();
 }
 
 void stop_unless(int done, const char *what)
 {
     if (!done) {
-        fprintf(stderr, "c boundary: %s: %s failed\n", case_name, what);
+        fprintf(stderr, "c boundary: %s: sheet of %zu bytes: %s failed\n",
+                case_name, sheet_length, what);
         exit(1);
     }
 }
@@ -199,12 +215,14 @@ static void print_answer(const char *before, uint64_t answer)
 static void call_and_compare(struct subject *subject, struct input input,
                              unsigned char paint, uint64_t answer)
 {
+    name_sheet(input.sheet.length);
     job.call = subject->call;
     job.input = input;
     note_stack(subject, run_job(paint));
     calls++;
     if (job.answer != answer) {
-        fprintf(stderr, "c boundary: %s: %s:", case_name, subject->name);
+        fprintf(stderr, "c boundary: %s: sheet of %zu bytes: %s:", case_name,
+                sheet_length, subject->name);
         print_answer(" expected", answer);
         print_answer(", got", job.answer);
         fprintf(stderr, "\n");

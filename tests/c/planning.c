@@ -1,16 +1,18 @@
 /*
  * nimovalsa_plan: which chain is taken, which words are written, and in what
- * order its refusals come, for buffers of every length.
+ * order its refusals come, for sheets of both versions and buffers of every
+ * length.
  */
 #include "boundary.h"
 
 #include <string.h>
 
-static uint8_t sheet[NIMOVALSA_SHEET_BYTES];
+static uint8_t sheet[LONGER_SHEET];
 static uint8_t plan[LONGEST_LENT_PLAN];
 static struct tails tails;
 
-static const struct bytes this_sheet = {sheet, sizeof sheet};
+/* The sheet that was made last. */
+static struct bytes this_sheet;
 
 /* ---- outcomes ---- */
 
@@ -33,7 +35,7 @@ static struct outcome all_written(struct bytes whole, uint64_t total)
 /* Takes a first replacement from a year to an end if it is cheaper. */
 static void try_end(unsigned year, unsigned end)
 {
-    uint64_t cost = nimovalsa_cost(sheet, sizeof sheet, 2, year, end);
+    uint64_t cost = nimovalsa_cost(sheet, this_sheet.length, 2, year, end);
     uint64_t total;
 
     if (nimovalsa_number(cost) != 0 || tails.totals[end] == UINT64_MAX)
@@ -58,9 +60,9 @@ static void compute_tails(void)
     }
 }
 
-static void prepare(make_sheet *make)
+static void prepare(make_sheet *make, const struct removal *removals)
 {
-    make(sheet);
+    this_sheet = put_sheet(sheet, make, removals);
     compute_tails();
 }
 
@@ -229,6 +231,34 @@ static void make_late_motors_sheet(uint8_t *at)
     put32(record_of(at, 2) + INVESTMENT_INFLATION, 40001);
 }
 
+/* T 4, replace for 2 years, at 100 in year 0 and 81 in year 2. Renovate costs
+ * 50; kept for more than 2 years it costs an overhaul of 85. */
+static void make_either_end_sheet(uint8_t *at)
+{
+    put_head(at, 4, 0);
+    put_lives(record_of(at, 1), 2, 4);
+    put32(record_of(at, 1) + INVESTMENT, 50);
+    put(record_of(at, 1) + OVERHAUL_COUNT, 1, 1);
+    put_overhaul(record_of(at, 1), 0, 2, 85);
+    put_lives(record_of(at, 2), 2, 2);
+    put32(record_of(at, 2) + INVESTMENT, 100);
+    put32(record_of(at, 2) + INVESTMENT_INFLATION, -100000);
+}
+
+/* T 3, replace for 1 to 2 years, at 5,000. Maintenance keeps 0.9 of its 10,000
+ * each year, and 0.99 in service. Of two replacements, replacing in year 1
+ * costs 9,900 + 8,910 + 8,820.9 and in year 2 it costs 9,900 + 9,801 + 8,019,
+ * which is 89.1 more. */
+static void make_early_replacement_sheet(uint8_t *at)
+{
+    static const struct yearly maintenance = {10000, -100000, 100000};
+
+    put_head(at, 3, 0);
+    put_lives(record_of(at, 2), 1, 2);
+    put32(record_of(at, 2) + INVESTMENT, 5000);
+    put_yearly(record_of(at, 2), MAINTENANCE, &maintenance);
+}
+
 /* Replace for 1 to 100 years, at 7 and 1 for each year. */
 static void put_hundred_year_sheet(uint8_t *at, unsigned horizon)
 {
@@ -291,6 +321,8 @@ static const struct plan_case plan_cases[] = {
     {make_renovated_sheet, "renovated", {1, 10, 0, {0}}, 120000},
     {make_unequal_lives_sheet, "unequal lives", {0, 0, 3, {3, 5, 7}}, 28194900},
     {make_either_sheet, "either", {0, 1, 3, {4, 7, 10}}, 80000},
+    {make_either_end_sheet, "either end", {0, 2, 1, {4}}, 1310000},
+    {make_early_replacement_sheet, "early", {0, 0, 2, {1, 3}}, 376309000},
     {make_one_year_sheet, "one year", {0, 0, 1, {1}}, 80000},
     {make_odd_years_sheet, "299 years", {0, 0, 3, {100, 200, 299}}, 3200000},
 };
@@ -298,25 +330,117 @@ static const struct plan_case plan_cases[] = {
 /* Their places in the table. */
 enum { CASE_12 = 2, PAPER = 3, SIX_YEARS = 4 };
 
-static struct outcome outcome_of(const struct plan_case *of)
+static struct outcome outcome_of(const struct plan_case *of,
+                                 const struct removal *removals)
 {
-    prepare(of->make);
+    prepare(of->make, removals);
     return all_written(put_plan(plan, &of->chain), of->total);
+}
+
+static void test_plan_case(const struct plan_case *of,
+                           const struct removal *removals)
+{
+    struct outcome full = outcome_of(of, removals);
+
+    test_plan_lengths(of->name, full);
+    test_word_counts(of->name, full);
+    name_case("%s, the plan priced", of->name);
+    expect_answer(&pricing, (struct input){this_sheet, full.plan}, full.answer);
 }
 
 static void test_plan_cases(void)
 {
-    for (size_t n = 0; n < COUNT(plan_cases); n++) {
-        const struct plan_case *of = &plan_cases[n];
-        struct outcome full = outcome_of(of);
-
-        test_plan_lengths(of->name, full);
-        test_word_counts(of->name, full);
-        name_case("%s, the plan priced", of->name);
-        expect_answer(&pricing, (struct input){this_sheet, full.plan},
-                      full.answer);
-    }
+    for (size_t n = 0; n < COUNT(plan_cases); n++)
+        for (size_t k = 0; k < VERSIONS; k++)
+            test_plan_case(&plan_cases[n], unpaid[k]);
 }
+
+/* ---- removals ---- */
+
+/* Without removals the paper, the limit sheet, the six years, the motors of
+ * which the renovation is removed, and those named for 4 and 990 take other
+ * chains, which plan_cases has. */
+static const struct removal renovated_for_2[OPTIONS] = {[1] = {2, 0}};
+static const struct removal renovated_for_3[OPTIONS] = {{7, 0}, {3, 0}, {1, 0}};
+static const struct removal renovated_for_4[OPTIONS] = {{7, 0}, {4, 0}, {1, 0}};
+static const struct removal replaced_for_2[OPTIONS] = {[2] = {2, 0}};
+static const struct removal renovated_for_less[OPTIONS] = {
+    {9, 0}, {2, -100000}, {2, 0}};
+static const struct removal late_removals[OPTIONS] = {
+    {0, 0}, {1000, -3000}, {1000, 0}};
+static const struct removal replaced_for_989[OPTIONS] = {
+    {7, 0}, {1, 0}, {989, -100000}};
+static const struct removal replaced_for_990[OPTIONS] = {
+    {7, 0}, {1, 0}, {990, -100000}};
+static const struct removal paper_removals[OPTIONS] = {
+    {100000, 10300}, {400000, 10300}, {500000, 10300}};
+static const struct removal limit_removals[OPTIONS] = {
+    {1000000000, 200000}, {1000000000, -100000}, {1000000000, 0}};
+
+struct removed_case {
+    struct plan_case of;
+    const struct removal *removals;
+};
+
+/* Motors: renovating to year 2 saves 1.99 beside a replacement to year 2, less
+ * than a removal of 2; one that loses a tenth each year is 1.62 then. Late
+ * motors: in year 240 the removal is 410 units. Either end: to renovate to year
+ * 2 and then replace is 4 cheaper than to renovate to T, but for the removal.
+ * Early: removing in year 2 is cheaper than in year 1 by 0.09 of the removal,
+ * which for 989 is 89.01 and for 990 is 89.1. So with 4 and with 990 there is a
+ * tie. No total was taken from the library. */
+static const struct removed_case removed_cases[] = {
+    {{make_case_12_sheet, "case 12, removed", {0, 0, 2, {2, 4}}, 270000},
+     case_12_removals},
+    {{make_free_four_year_sheet, "four years, removed", {2, 4, 0, {0}}, 0},
+     four_year_removals},
+    {{make_six_year_sheet, "six years, removed", {3, 3, 1, {6}}, 7590310000},
+     digits_removals},
+    {{make_three_year_sheet, "three years, removed", {3, 3, 0, {0}}, 310000},
+     digits_removals},
+    {{make_motors_sheet,
+      "motors, renovated for 2",
+      {1, 1, 2, {2, 4}},
+      38767810},
+     renovated_for_2},
+    {{make_motors_sheet, "motors, replaced for 2", {1, 2, 1, {4}}, 38747910},
+     replaced_for_2},
+    {{make_motors_sheet, "motors, both for 2", {1, 2, 1, {4}}, 38764110},
+     renovated_for_less},
+    {{make_late_motors_sheet,
+      "late motors, removed",
+      {120, 240, 1, {300}},
+      11222070},
+     late_removals},
+    {{make_either_end_sheet, "either end, 3", {0, 2, 1, {4}}, 1340000},
+     renovated_for_3},
+    {{make_either_end_sheet, "either end, 4", {0, 4, 0, {0}}, 1350000},
+     renovated_for_4},
+    {{make_early_replacement_sheet, "early, 989", {0, 0, 2, {1, 3}}, 385210000},
+     replaced_for_989},
+    {{make_early_replacement_sheet, "early, 990", {0, 0, 2, {2, 3}}, 385219000},
+     replaced_for_990},
+    {{make_dear_sheet, "dear, removed", {120, 240, 1, {300}}, 6280000000000000},
+     dear_removals},
+    {{make_paper_sheet,
+      "paper, removed",
+      {5, 5, 5, {65, 125, 185, 245, 300}},
+      40034241348},
+     paper_removals},
+    {{make_limit_sheet,
+      "limit, removed",
+      {3, 3, 5, {7, 16, 76, 188, 300}},
+      179395755520346},
+     limit_removals},
+};
+
+static void test_removed_cases(void)
+{
+    for (size_t n = 0; n < COUNT(removed_cases); n++)
+        test_plan_case(&removed_cases[n].of, removed_cases[n].removals);
+}
+
+/* ---- the longest plan, the largest totals ---- */
 
 /* T 300, a replacement every year: the longest plan. */
 static void make_yearly_sheet(uint8_t *at)
@@ -328,13 +452,15 @@ static void make_yearly_sheet(uint8_t *at)
 
 static void test_longest_plan(void)
 {
-    prepare(make_yearly_sheet);
-    test_plan_lengths("300 replacements",
-                      all_written(put_even_plan(plan, 1, 300), 9000000));
+    for (size_t n = 0; n < VERSIONS; n++) {
+        prepare(make_yearly_sheet, unpaid[n]);
+        test_plan_lengths("300 replacements",
+                          all_written(put_even_plan(plan, 1, 300), 9000000));
+    }
 }
 
 /* The dear sheet with a replacement every year. But for rounding, no total is
- * larger. */
+ * larger in its version. */
 static void make_largest_sheet(uint8_t *at)
 {
     make_dear_sheet(at);
@@ -343,13 +469,12 @@ static void make_largest_sheet(uint8_t *at)
     put_lives(record_of(at, 2), 1, 1);
 }
 
-static void test_largest_total(void)
+static void test_largest_total(const struct removal *removals, uint64_t total)
 {
-    prepare(make_largest_sheet);
+    prepare(make_largest_sheet, removals);
     name_case("largest total");
-    expect_outcome(
-        this_sheet, (struct lent){NIMOVALSA_PLAN_BYTES(300), 301},
-        all_written(put_even_plan(plan, 1, 300), UINT64_C(9000000000000000)));
+    expect_outcome(this_sheet, (struct lent){NIMOVALSA_PLAN_BYTES(300), 301},
+                   all_written(put_even_plan(plan, 1, 300), total));
 }
 
 /* ---- sheets without a chain ---- */
@@ -401,12 +526,13 @@ static const struct no_chain_case no_chain_cases[] = {
 
 /* With any plan buffer, an empty one included: 11 comes before 12, and 10
  * before both. */
-static void test_no_chain_of(const struct no_chain_case *of)
+static void test_no_chain_of(const struct no_chain_case *of,
+                             const struct removal *removals)
 {
     static const size_t lengths[] = {0,  1,   18,  19,  20,
                                      21, 618, 619, 620, LONGEST_LENT_PLAN};
 
-    prepare(of->make);
+    prepare(of->make, removals);
     for (size_t k = 0; k < COUNT(lengths); k++)
         for (size_t n = 0; n < COUNT(word_counts); n++) {
             name_case("%s, plan buffer of %zu bytes, %zu words", of->name,
@@ -419,46 +545,51 @@ static void test_no_chain_of(const struct no_chain_case *of)
 static void test_no_chain(void)
 {
     for (size_t n = 0; n < COUNT(no_chain_cases); n++)
-        test_no_chain_of(&no_chain_cases[n]);
+        for (size_t k = 0; k < VERSIONS; k++)
+            test_no_chain_of(&no_chain_cases[n], unpaid[k]);
 }
 
 /* ---- the words ---- */
 
 /* By hand, without the help of costing. */
-static void test_words_of_case_9(void)
+static void test_words_of_case_9(const struct removal *removals)
 {
     static const struct tails by_hand = {
         5, {UINT64_MAX, 0, 0, UINT64_MAX, UINT64_MAX, 0}};
 
-    make_case_9_sheet(sheet);
+    this_sheet = put_sheet(sheet, make_case_9_sheet, removals);
     name_case("words of case 9");
     expect_outcome(this_sheet, (struct lent){19, 301},
                    (struct outcome){REFUSED_NO_CHAIN, &by_hand, {NULL, 0}});
 }
 
-/* One year costs 11, two 12, three 28. */
-static void test_words_of_case_12(void)
+static void test_words_of_case_12(const struct removal *removals,
+                                  const struct tails *by_hand)
 {
-    static const struct tails by_hand = {4,
-                                         {240000, 230000, 120000, 110000, 0}};
     static const struct chain chain = {0, 0, 2, {2, 4}};
     struct bytes whole = put_plan(plan, &chain);
+    uint64_t total = by_hand->totals[0];
 
-    make_case_12_sheet(sheet);
-    put(plan + PLAN_TOTAL, 8, 240000);
+    this_sheet = put_sheet(sheet, make_case_12_sheet, removals);
+    put(plan + PLAN_TOTAL, 8, (int64_t)total);
     name_case("words of case 12");
     expect_outcome(this_sheet, (struct lent){whole.length, 301},
-                   (struct outcome){PRICED(240000), &by_hand, whole});
+                   (struct outcome){PRICED(total), by_hand, whole});
+}
+
+static void make_maintained_sheet(uint8_t *at)
+{
+    put_head(at, 2, 0);
+    put_lives(record_of(at, 0), 2, 2);
 }
 
 /* Replace alone cannot fill any of the years; the chain has none. */
-static void test_words_without_replacements(void)
+static void test_words_without_replacements(const struct removal *removals)
 {
     static const struct tails by_hand = {2, {UINT64_MAX, UINT64_MAX, 0}};
     static const struct chain chain = {2, 2, 0, {0}};
 
-    put_head(sheet, 2, 0);
-    put_lives(record_of(sheet, 0), 2, 2);
+    this_sheet = put_sheet(sheet, make_maintained_sheet, removals);
     name_case("words without replacements");
     expect_outcome(
         this_sheet, (struct lent){19, 301},
@@ -466,11 +597,26 @@ static void test_words_without_replacements(void)
                          all_written(put_plan(plan, &chain), 0).plan});
 }
 
+/* In case 12 one year costs 11, two 12, three 28; 3 more if removed. */
+static void test_words(void)
+{
+    static const struct tails kept = {4, {240000, 230000, 120000, 110000, 0}};
+    static const struct tails removed = {4,
+                                         {270000, 260000, 120000, 110000, 0}};
+
+    for (size_t n = 0; n < VERSIONS; n++) {
+        test_words_of_case_9(unpaid[n]);
+        test_words_of_case_12(unpaid[n], &kept);
+        test_words_without_replacements(unpaid[n]);
+    }
+    test_words_of_case_12(case_12_removals, &removed);
+}
+
 /* Every count of words, to beyond twice the least that is accepted: on 0, 12
  * and 11. */
-static void test_every_word_count(void)
+static void test_every_word_count(const struct removal *removals)
 {
-    struct outcome full = outcome_of(&plan_cases[CASE_12]);
+    struct outcome full = outcome_of(&plan_cases[CASE_12], removals);
 
     for (size_t count = 0; count <= 605; count++) {
         name_case("case 12, %zu words", count);
@@ -478,7 +624,7 @@ static void test_every_word_count(void)
         test_word_count((struct lent){full.plan.length - 1, count},
                         words_written(REFUSED_SHORT_PLAN));
     }
-    prepare(make_case_9_sheet);
+    prepare(make_case_9_sheet, removals);
     for (size_t count = 0; count <= 605; count++) {
         name_case("case 9, %zu words", count);
         test_word_count((struct lent){full.plan.length, count},
@@ -504,17 +650,29 @@ static void expect_full_and_short(struct outcome full)
     expect_in_words(full.plan.length - 1, words_written(REFUSED_SHORT_PLAN));
 }
 
+/* What so many replacements up to T pay for removal, each but the last. */
+static uint64_t removed(unsigned count, const struct removal *removals)
+{
+    if (removals == NULL || count == 0)
+        return 0;
+    return (count - 1) * (uint64_t)removals[2].amount;
+}
+
 /* The fewest replacements cost the least; the last one is the short one. */
-static void test_hundred_years(unsigned horizon)
+static void test_hundred_years(unsigned horizon, const struct removal *removals)
 {
     struct chain chain = {0, 0, 0, {0}};
 
     name_case("replace for up to 100 years, T %u", horizon);
     put_hundred_year_sheet(sheet, horizon);
+    this_sheet = put_removals(sheet, removals);
     tails.horizon = horizon;
-    for (unsigned years = 0; years <= horizon; years++)
+    for (unsigned years = 0; years <= horizon; years++) {
+        unsigned count = (years + 99) / 100;
+
         tails.totals[horizon - years] =
-            UINT64_C(10000) * (7 * ((years + 99) / 100) + years);
+            10000 * (7 * count + years + removed(count, removals));
+    }
     for (unsigned end = 100; end < horizon; end += 100)
         chain.ends[chain.m++] = (uint16_t)end;
     chain.ends[chain.m++] = (uint16_t)horizon;
@@ -522,16 +680,21 @@ static void test_hundred_years(unsigned horizon)
 }
 
 /* Replace for 2 years, at 3: no chain if T is odd. */
-static void test_two_years(unsigned horizon)
+static void test_two_years(unsigned horizon, const struct removal *removals)
 {
     name_case("replace for 2 years, T %u", horizon);
     put_head(sheet, horizon, 0);
     put_lives(record_of(sheet, 2), 2, 2);
     put32(record_of(sheet, 2) + INVESTMENT, 3);
+    this_sheet = put_removals(sheet, removals);
     tails.horizon = horizon;
-    for (unsigned years = 0; years <= horizon; years++)
+    for (unsigned years = 0; years <= horizon; years++) {
+        unsigned count = years / 2;
+
         tails.totals[horizon - years] =
-            years % 2 == 0 ? UINT64_C(10000) * 3 * (years / 2) : UINT64_MAX;
+            years % 2 == 0 ? 10000 * (3 * count + removed(count, removals))
+                           : UINT64_MAX;
+    }
     if (horizon % 2 == 0)
         expect_full_and_short(all_written(
             put_even_plan(plan, 2, (uint16_t)(horizon / 2)), tails.totals[0]));
@@ -539,21 +702,74 @@ static void test_two_years(unsigned horizon)
         expect_in_words(0, words_written(REFUSED_NO_CHAIN));
 }
 
+/* Replace for a year costs 10, for two years 25. */
+static void put_one_or_two_sheet(unsigned horizon,
+                                 const struct removal *removals)
+{
+    uint8_t *record = record_of(sheet, 2);
+
+    put_head(sheet, horizon, 0);
+    put_lives(record, 1, 2);
+    put32(record + INVESTMENT, 10);
+    put(record + OVERHAUL_COUNT, 1, 1);
+    put_overhaul(record, 0, 1, 15);
+    this_sheet = put_removals(sheet, removals);
+    tails.horizon = horizon;
+}
+
+/* Two years one by one cost 20, and are the cheaper. */
+static void test_one_by_one(unsigned horizon, const struct removal *removals)
+{
+    name_case("replace every year, T %u", horizon);
+    put_one_or_two_sheet(horizon, removals);
+    for (unsigned years = 0; years <= horizon; years++)
+        tails.totals[horizon - years] = 100000 * years;
+    expect_full_and_short(all_written(put_even_plan(plan, 1, (uint16_t)horizon),
+                                      tails.totals[0]));
+}
+
+/* A removal of 6 makes them 26, and two years are taken together; the last year
+ * stands alone if T is odd. */
+static void test_two_by_two(unsigned horizon)
+{
+    static const struct removal removals[OPTIONS] = {[2] = {6, 0}};
+    uint16_t m = (uint16_t)((horizon + 1) / 2);
+    struct bytes whole = put_even_plan(plan, 2, m);
+
+    name_case("replace every two years, T %u", horizon);
+    put16(plan + END(m - 1), horizon);
+    put_one_or_two_sheet(horizon, removals);
+    for (unsigned years = 0; years <= horizon; years++) {
+        unsigned pairs = years / 2, single = years % 2;
+
+        tails.totals[horizon - years] =
+            10000 *
+            (25 * pairs + 10 * single + removed(pairs + single, removals));
+    }
+    expect_full_and_short(all_written(whole, tails.totals[0]));
+}
+
 static void test_every_horizon(void)
 {
+    static const struct removal removals[OPTIONS] = {{1, 0}, {2, 0}, {5, 0}};
+
     for (unsigned horizon = 1; horizon <= MOST_YEARS; horizon++) {
-        test_hundred_years(horizon);
-        test_two_years(horizon);
+        test_hundred_years(horizon, NULL);
+        test_hundred_years(horizon, removals);
+        test_two_years(horizon, NULL);
+        test_two_years(horizon, removals);
+        test_one_by_one(horizon, unpaid[horizon % VERSIONS]);
+        test_two_by_two(horizon);
     }
 }
 
 /* ---- the memory ---- */
 
-static void test_null(void)
+static void test_null(const struct removal *removals)
 {
     struct bytes no_sheet = {NULL, 0};
 
-    prepare(make_case_12_sheet);
+    prepare(make_case_12_sheet, removals);
     name_case("NULL with length 0 for sheet, plan and words");
     expect_outcome_with_null(no_sheet, (struct lent){0, 0},
                              left(REFUSED_LENGTH));
@@ -569,15 +785,15 @@ static void test_null(void)
     name_case("NULL with length 0 for the plan");
     expect_outcome_with_null(this_sheet, (struct lent){0, 301},
                              words_written(REFUSED_SHORT_PLAN));
-    prepare(make_case_9_sheet);
+    prepare(make_case_9_sheet, removals);
     name_case("NULL with length 0 for the plan, no chain");
     expect_outcome_with_null(this_sheet, (struct lent){0, 301},
                              words_written(REFUSED_NO_CHAIN));
 }
 
-static void test_alignments(void)
+static void test_alignments(const struct removal *removals)
 {
-    struct outcome full = outcome_of(&plan_cases[CASE_12]);
+    struct outcome full = outcome_of(&plan_cases[CASE_12], removals);
     struct lent lent = {full.plan.length, NIMOVALSA_PLAN_WORDS};
 
     for (size_t of_sheet = 0; of_sheet < 8; of_sheet++)
@@ -589,10 +805,10 @@ static void test_alignments(void)
 }
 
 /* The sheet stands in memory that may be written. */
-static void test_sheet_unchanged(void)
+static void test_sheet_unchanged(const struct removal *removals)
 {
     uint8_t before[sizeof sheet];
-    struct outcome full = outcome_of(&plan_cases[PAPER]);
+    struct outcome full = outcome_of(&plan_cases[PAPER], removals);
 
     name_case("sheet unchanged by planning");
     memcpy(before, sheet, sizeof sheet);
@@ -601,16 +817,22 @@ static void test_sheet_unchanged(void)
     stop_unless(memcmp(before, sheet, sizeof sheet) == 0, "comparison");
 }
 
-/* Calls leave nothing behind: two sheets in turn, each twice. */
+/* Calls leave nothing behind: two sheets in turn, and one of them with and
+ * without its removal, each twice. */
 static void test_in_turn(void)
 {
-    static const unsigned of[] = {CASE_12, SIX_YEARS};
+    const struct removed_case in_turn[] = {
+        {plan_cases[CASE_12], NULL},
+        {plan_cases[SIX_YEARS], NULL},
+        removed_cases[0],
+    };
 
-    for (unsigned call = 0; call < 6; call++) {
-        struct outcome full = outcome_of(&plan_cases[of[call % 2]]);
+    for (unsigned call = 0; call < 3 * COUNT(in_turn); call++) {
+        const struct removed_case *now = &in_turn[call % COUNT(in_turn)];
+        struct outcome full = outcome_of(&now->of, now->removals);
         struct lent lent = {full.plan.length, NIMOVALSA_PLAN_WORDS};
 
-        name_case("two sheets in turn, call %u", call);
+        name_case("sheets in turn, call %u", call);
         expect_outcome(this_sheet, lent, full);
         expect_outcome(this_sheet, lent, full);
     }
@@ -619,16 +841,18 @@ static void test_in_turn(void)
 void test_planning(void)
 {
     test_plan_cases();
+    test_removed_cases();
     test_longest_plan();
-    test_largest_total();
+    test_largest_total(NULL, UINT64_C(9000000000000000));
+    test_largest_total(dear_removals, UINT64_C(11990000000000000));
     test_no_chain();
-    test_words_of_case_9();
-    test_words_of_case_12();
-    test_words_without_replacements();
-    test_every_word_count();
+    test_words();
     test_every_horizon();
-    test_null();
-    test_alignments();
-    test_sheet_unchanged();
+    for (size_t n = 0; n < VERSIONS; n++) {
+        test_every_word_count(unpaid[n]);
+        test_null(unpaid[n]);
+        test_alignments(unpaid[n]);
+        test_sheet_unchanged(unpaid[n]);
+    }
     test_in_turn();
 }

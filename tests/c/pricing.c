@@ -1,19 +1,23 @@
 /*
  * nimovalsa_price by the plan's bytes: their number, each bit of them, where
- * they lie, and that they are only read.
+ * they lie, and that they are only read. On sheets of both versions.
  */
 #include "boundary.h"
 
 #include <inttypes.h>
 #include <string.h>
 
-static uint8_t sheet[NIMOVALSA_SHEET_BYTES];
+static uint8_t sheet[LONGER_SHEET];
 static uint8_t plan[LONGEST_PLAN];
+
+/* The removals of the version that is tested now, and the sheet that was made
+ * with them. */
+static const struct removal *removals;
+static struct bytes this_sheet;
 
 static void expect(struct bytes bytes, uint64_t answer)
 {
-    expect_answer(&pricing, (struct input){{sheet, sizeof sheet}, bytes},
-                  answer);
+    expect_answer(&pricing, (struct input){this_sheet, bytes}, answer);
 }
 
 /* ---- on every sheet of the check ---- */
@@ -58,6 +62,7 @@ static void make_plain_sheet(int64_t shortest, int64_t longest)
     put_lives(record, shortest, longest);
     put32(record + INVESTMENT, 1);
     put32(record + MAINTENANCE, 1);
+    this_sheet = put_removals(sheet, removals);
 }
 
 /* One chain is feasible: five replacements of 60 years. */
@@ -95,7 +100,7 @@ static void test_lengths(void)
     test_lengths_of("300 replacements", put_even_plan(plan, 1, 300),
                     PRICED(6000000));
     put16(sheet + HORIZON, 30);
-    put_lives(record_of(sheet, 1), 30, 30);
+    put_lives(record_in(sheet, this_sheet.length, 1), 30, 30);
     test_lengths_of("no replacement", put_plan(plan, &renovated), ACCEPTED);
 }
 
@@ -219,15 +224,16 @@ static void test_null(void)
     expect_answer_here(&pricing, (struct input){nothing, whole},
                        REFUSED_LENGTH);
     name_case("NULL with length 0 for the plan");
-    expect_answer_here(&pricing, (struct input){{sheet, sizeof sheet}, nothing},
+    expect_answer_here(&pricing, (struct input){this_sheet, nothing},
                        REFUSED_PLAN);
 }
 
 static void test_alignments(void)
 {
-    struct input input = {{sheet, sizeof sheet}, one_chain_plan()};
+    struct input input;
 
     make_one_chain_sheet();
+    input = (struct input){this_sheet, one_chain_plan()};
     for (size_t of_sheet = 0; of_sheet < 8; of_sheet++)
         for (size_t of_plan = 0; of_plan < 8; of_plan++) {
             name_case("sheet at %zu, plan at %zu modulo 8", of_sheet, of_plan);
@@ -247,8 +253,7 @@ static void test_unchanged(void)
         put16(plan + END(299), end);
         memcpy(sheet_before, sheet, sizeof sheet);
         memcpy(plan_before, plan, sizeof plan);
-        expect_answer_here(&pricing,
-                           (struct input){{sheet, sizeof sheet}, whole},
+        expect_answer_here(&pricing, (struct input){this_sheet, whole},
                            end == 300 ? PRICED(6000000) : REFUSED_PLAN);
         stop_unless(memcmp(sheet_before, sheet, sizeof sheet) == 0,
                     "comparison of the sheet");
@@ -263,14 +268,16 @@ static void test_unchanged(void)
 static void test_overlap(void)
 {
     uint8_t *maintain = record_of(sheet, 0), *renovate = record_of(sheet, 1);
-    struct input input = {{sheet, sizeof sheet}, {sheet, sizeof sheet}};
+    struct input input;
 
     put_head(sheet, 59, 0);
     put32(maintain + MAINTENANCE, 0x01504352);
     put32(maintain + ELECTRICITY, INT64_C(59) << 24);
     put_lives(renovate, 59, 59);
     put32(renovate + INVESTMENT, 1);
+    this_sheet = put_removals(sheet, removals);
     name_case("the sheet as the plan");
+    input = (struct input){this_sheet, this_sheet};
     expect_answer_here(&pricing, input, REFUSED_PLAN);
     name_case("the plan inside the sheet");
     input.plan = (struct bytes){maintain + MAINTENANCE, 19};
@@ -293,7 +300,7 @@ static void test_in_turn(void)
     }
 }
 
-void test_pricing(void)
+static void test_version(void)
 {
     test_lengths();
     test_other_counts();
@@ -306,4 +313,12 @@ void test_pricing(void)
     test_unchanged();
     test_overlap();
     test_in_turn();
+}
+
+void test_pricing(void)
+{
+    for (size_t n = 0; n < VERSIONS; n++) {
+        removals = unpaid[n];
+        test_version();
+    }
 }

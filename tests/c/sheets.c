@@ -1,7 +1,28 @@
-/* Sheets by field. */
+/* Sheets by field, and their removals. */
 #include "boundary.h"
 
-#include <string.h>
+static const struct removal of_maintaining[OPTIONS] = {
+    {1000000000, -100000}, {0, -100000}, {0, 0}};
+
+const struct removal *const unpaid[VERSIONS] = {NULL, of_maintaining};
+
+struct bytes put_removals(uint8_t *sheet, const struct removal *removals)
+{
+    if (removals == NULL)
+        return (struct bytes){sheet, NIMOVALSA_SHEET_BYTES};
+    lengthen(sheet);
+    for (size_t option = 0; option < OPTIONS; option++)
+        put_removal(sheet, option, removals[option].amount,
+                    removals[option].inflation);
+    return (struct bytes){sheet, LONGER_SHEET};
+}
+
+struct bytes put_sheet(uint8_t *sheet, make_sheet *make,
+                       const struct removal *removals)
+{
+    make(sheet);
+    return put_removals(sheet, removals);
+}
 
 /* r 40,000, every f and g 0, three overhauls: far from most limits. */
 void make_middle_sheet(uint8_t *sheet)
@@ -86,6 +107,23 @@ void make_case_12_sheet(uint8_t *sheet)
     put_overhaul(record, 0, 2, 15);
 }
 
+const struct removal case_12_removals[OPTIONS] = {[2] = {3, 0}};
+
+/* T 4, r 40,000, every option offered for 1 to 2 years, all amounts 0. As
+ * version 1 the record behind that of renovating begins with bytes that could
+ * be a removal. */
+void make_free_four_year_sheet(uint8_t *sheet)
+{
+    put_head(sheet, 4, 40000);
+    for (unsigned option = 0; option < OPTIONS; option++)
+        put_lives(record_of(sheet, option), 1, 2);
+}
+
+/* Renovating pays 9,712 units in year 1, 9,432 in year 2 and 9,160 in year 3;
+ * replacing 19,039, 18,124 and 17,253. */
+const struct removal four_year_removals[OPTIONS] = {
+    {5, 0}, {1, 10000}, {2, -10000}};
+
 /* Every option is offered, and every payment has digits of its own. Some
  * lose a tenth of their value each year; nothing is rounded. */
 static void make_digits_sheet(uint8_t *sheet, int64_t horizon)
@@ -107,6 +145,10 @@ static void make_digits_sheet(uint8_t *sheet, int64_t horizon)
     put32(replace + INVESTMENT_INFLATION, -100000);
     put32(replace + MAINTENANCE, 10000);
 }
+
+/* That of renovating loses a tenth each year. */
+const struct removal digits_removals[OPTIONS] = {
+    {1000000000, 0}, {10000000, -100000}, {100000000, 0}};
 
 void make_six_year_sheet(uint8_t *sheet)
 {
@@ -138,6 +180,10 @@ void make_dear_sheet(uint8_t *sheet)
             put_overhaul(record, entry, 1 + entry, 1000000000);
     }
 }
+
+/* 10^13 units in every year too. */
+const struct removal dear_removals[OPTIONS] = {
+    {1000000000, 200000}, {1000000000, 200000}, {1000000000, 200000}};
 
 /* T 4, every option offered. Each year electricity keeps 0.9 of its value, and
  * 0.99 in service; so does the maintenance of renovating. */

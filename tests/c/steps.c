@@ -1,10 +1,11 @@
 /*
- * What a yearly payment is in a year, step by step as documents 01 and 02 have
- * it and apart from the library: in units and in cents.
+ * What a yearly payment is in a year, and a removal in the year in which it is
+ * paid, step by step as documents 01 and 02 have it and apart from the library:
+ * in units and in cents.
  */
 #include "boundary.h"
 
-enum { MILLION = 1000000, RENOVATE = 1 };
+enum { MILLION = 1000000, MAINTAIN = 0, RENOVATE = 1 };
 
 uint64_t up(uint64_t dividend, uint64_t divisor)
 {
@@ -47,6 +48,31 @@ uint64_t cents_in(const struct yearly *of, unsigned year, unsigned since,
 unsigned new_in(unsigned option, size_t payment, unsigned start)
 {
     return option == RENOVATE && payment == ELECTRICITY ? 0 : start;
+}
+
+int is_removed(unsigned option, unsigned start, unsigned end, unsigned horizon)
+{
+    return option != MAINTAIN && start < end && end < horizon;
+}
+
+/* A removal as a payment that is never in service. */
+static struct yearly unaged(const struct removal *of)
+{
+    return (struct yearly){(uint64_t)of->amount, of->inflation, 0};
+}
+
+uint64_t removal_units(const struct removal *of, unsigned year, uint64_t rate)
+{
+    struct yearly payment = unaged(of);
+
+    return units_in(&payment, year, year, rate);
+}
+
+uint64_t removal_cents(const struct removal *of, unsigned year, int64_t general)
+{
+    struct yearly payment = unaged(of);
+
+    return cents_in(&payment, year, year, general);
 }
 
 void put_yearly(uint8_t *record, size_t payment, const struct yearly *of)

@@ -1,14 +1,12 @@
 """Checks of the budget by year: its rule, and its two charts in what tools/plot draws."""
 
 import random
-import struct
 from xml.etree import ElementTree
 
 from . import sheets
 from .charts import OF_THE_YEAR, PRESENT, chart, charts_tell
+from .listing import MILLION, cents_of, listed, rate_of, summed, units_of
 from .pictures import drawn, laid_out, plan_bytes, texts
-
-MILLION = 10**6
 
 
 def two_years():
@@ -34,6 +32,14 @@ BY_HAND_EUROS = [100, 7 + 10, 10 + 200, 20 + 300, 5 + 30, 30]
 BY_HAND_CENTS = [10_000, 735 + 1_050, 1_103 + 22_050, 2_316 + 34_729, 609 + 3_648, 3_831]
 
 
+# With removals of 1,000, 40 and 50 euros: maintain 0 to 1, renovate 1 to 2, replace 2 to 4 and 4 to 5. Maintaining pays
+# none, and none is paid at the horizon.
+REMOVED = sheets.removed(BY_HAND, (1_000, 0), (40, 0), (50, 0))
+REMOVED_ENDS = [1, 2, 4, 5]
+REMOVED_EUROS = [100, 10 + 200, 20 + 40 + 300, 5 + 30, 30 + 50 + 300, 30]
+REMOVED_CENTS = [10_000, 1_050 + 21_000, 2_205 + 4_410 + 33_075, 580 + 3_474, 3_648 + 6_079 + 36_466, 3_831]
+
+
 def four_years():
     """Electricity, 1,000 euros, keeps 0.9 of its value a year, 0.99 in service; so does the renovation's maintenance."""
     sheet = sheets.head(4, 0) + sheets.record(1, 1) + sheets.record(1, 3, 100) + sheets.record(1, 2, 200)
@@ -54,7 +60,9 @@ LONGEST = 60  # of their activities, in years
 
 def run(bench):
     checked_figures(bench)
-    by_hand(bench)
+    by_hand(bench, BY_HAND, BY_HAND_ENDS, BY_HAND_EUROS, BY_HAND_CENTS)
+    by_hand(bench, REMOVED, REMOVED_ENDS, REMOVED_EUROS, REMOVED_CENTS)
+    removal_with_inflation(bench)
     old_motors(bench)
     year_15(bench)
     against_a_listing(bench)
@@ -83,13 +91,22 @@ def checked_figures(bench):
     charts_tell(bench, picture, TWO_YEARS_UNITS, TWO_YEARS_CENTS, 'two years')
 
 
-def by_hand(bench):
-    units = [10_000 * euros for euros in BY_HAND_EUROS]
-    bench.put('five', BY_HAND)
-    for general, text, cents in ((0, '0%', [100 * euros for euros in BY_HAND_EUROS]), (50_000, '5 %', BY_HAND_CENTS)):
-        bench.equal(budget(BY_HAND, BY_HAND_ENDS, general), (units, general, cents), f'five years at {text}')
-        picture = drawn(bench, 'five', sum(units), BY_HAND_ENDS, text)
-        charts_tell(bench, picture, units, cents, f'five years at {text}')
+def by_hand(bench, sheet, ends, euros, cents_at_5):
+    """Five years without rates, at general inflations of 0 and 5 per cent."""
+    units = [10_000 * amount for amount in euros]
+    bench.put('five', sheet)
+    for general, text, cents in ((0, '0%', [100 * amount for amount in euros]), (50_000, '5 %', cents_at_5)):
+        bench.equal(budget(sheet, ends, general), (units, general, cents), f'five years, ends {ends}, at {text}')
+        picture = drawn(bench, 'five', sum(units), ends, text)
+        charts_tell(bench, picture, units, cents, f'five years, ends {ends}, at {text}')
+
+
+def removal_with_inflation(bench):
+    """A renovation's removal in year 2 and a replacement's in year 3, each by its own inflation."""
+    bench.equal(budget(sheets.REMOVALS, [1, 2, 3, 4], 1_000),
+                ([0, 0, 9_432, 17_253, 0], 1_000, [0, 0, 106, 198, 0]), 'removals with inflation')
+    bench.equal(budget(sheets.REMOVALS, [1, 1, 2, 4]).units, [0, 0, 18_124, 0, 0],
+                'no renovation, so no removal of one')
 
 
 def old_motors(bench):
@@ -106,24 +123,32 @@ def year_15(bench):
     got = budget(sheet, [0, 0, 15, 30], 0)
     bench.equal(got.cents, [10_000] + 14 * [100] + [10_100], 'a replacement in year 15')
     bench.equal(got.units[16:], 15 * [10_000], 'the years behind it')
+    got = budget(sheets.removed(sheet, (0, 0), (0, 0), (7, 0)), [0, 0, 15, 30], 0)
+    bench.equal(got.cents, [10_000] + 14 * [100] + [10_800], 'a removal in year 15')
+    bench.equal(got.units[16:], 15 * [10_000], 'the years behind it, the horizon without a removal')
+    sheet = sheets.removed(sheets.only_replace(30, 0, 14, 16, 100, 1), (0, 0), (0, 0), (7, 0))
+    bench.equal(budget(sheet, [0, 0, 16, 30], 0).cents, [10_000] + 15 * [100], 'a removal in year 16')
 
 
 def against_a_listing(bench):
     """Any sheets and chains, beside a list of all payments that is written from document 02's words."""
     source = random.Random(2)
+    lengths = set()
     for horizon in HORIZONS:
         for general in (0, 1, 50_000):
             sheet = any_sheet(source, horizon)
+            lengths.add(len(sheet))
             ends = any_ends(source, horizon)
             got = budget(sheet, ends, general)
-            rate = MILLION + struct.unpack_from('<I', sheet, sheets.RATE)[0]
             paid = list(listed(sheet, ends))
-            bench.equal(got.units, summed(paid, horizon, units_of, rate), f'units, horizon {horizon}, ends {ends}')
+            bench.equal(got.units, summed(paid, horizon, units_of, rate_of(sheet)),
+                        f'units, horizon {horizon}, ends {ends}')
             bench.equal(got.cents, summed(paid, min(15, horizon), cents_of, MILLION + general),
                         f'cents, horizon {horizon}, ends {ends}')
             bench.put('any', sheet)
             picture = drawn(bench, 'any', sum(got.units), ends, f'{general // 10_000}.{general % 10_000:04}%')
             charts_tell(bench, picture, got.units, got.cents, f'horizon {horizon}, ends {ends}')
+    bench.equal(lengths, {278, 302}, 'the lengths of the sheets')
 
 
 def any_sheet(source, horizon):
@@ -142,45 +167,6 @@ def any_ends(source, horizon):
     while ends[-1] < horizon:
         ends.append(min(ends[-1] + source.randint(1, LONGEST), horizon))
     return ends
-
-
-def listed(sheet, ends):
-    """Every payment of a chain: amount, factors of inflation and ageing, plain steps, steps in service."""
-    for place, (start, end) in enumerate(zip([0, *ends], ends)):
-        record = sheets.RECORDS + sheets.RECORD_BYTES * min(place, 2)
-        invested, f0, maintained, f1, g1, powered, f2, g2, f3, count = struct.unpack_from('<IiIiIIiIiB', sheet,
-                                                                                          record + sheets.INVESTMENT)
-        if start < end:
-            yield invested, MILLION + f0, MILLION, start, 0
-        for entry in range(count):
-            age, amount = struct.unpack_from('<HI', sheet, record + sheets.OVERHAULS + 6 * entry)
-            if age < end - start:
-                yield amount, MILLION + f3, MILLION, start + age, 0
-        motors = 0 if place == 1 else start  # renovating keeps them
-        for year in range(start + 1, end + 1):
-            yield maintained, MILLION + f1, MILLION + g1, start, year - start
-            yield powered, MILLION + f2, MILLION + g2, motors, year - motors
-
-
-def summed(paid, last, worth, factor):
-    """What is paid in each year: the year of a payment is the number of its steps."""
-    return [sum(worth(factor, *payment) for payment in paid if payment[3] + payment[4] == year)
-            for year in range(last + 1)]
-
-
-def units_of(rate, amount, inflation, ageing, plain, served):
-    return moved(amount * 10_000, plain * [(inflation, rate)] + served * [(ageing, MILLION), (inflation, rate)])
-
-
-def cents_of(general, amount, inflation, ageing, plain, served):
-    step = [(general, MILLION), (inflation, MILLION)]
-    return moved(amount * 100, plain * step + served * [(ageing, MILLION), *step])
-
-
-def moved(amount, factors):
-    for numerator, denominator in factors:
-        amount = (amount * numerator + denominator - 1) // denominator
-    return amount
 
 
 def the_paper_by_year(bench):

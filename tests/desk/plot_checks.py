@@ -15,23 +15,27 @@ PAPER_ARCS = [(32_376_325_834, 3_237_632), (5_476_429_609, 547_643), (936_951_81
 # What a picture has room for: costs and total to the nearest euro.
 PAPER_EUROS = ['3,237,633', '547,643', '93,695', '16,152', '2,799', '3,897,922']
 
-# Document 01's case 12, and the lines that planshow prints for it.
-CASE_12 = sheets.only_replace(4, 0, 1, 3, 10, 1, overhauls=[(2, 15)])
+# The lines that planshow prints for document 01's case 12.
 CASE_12_LINES = 'total 240000\nmaintain 0 0\nrenovate 0 0\nreplace 0 2\nreplace 2 4\n'
 
 # A sheet without discount on which every option costs 1 euro a year and 10 at the start, for 1 to 120 years.
 ALL_OFFERED = sheets.head(300, 0) + 3 * sheets.record(1, 120, 10, 1)
+ALL_REMOVED = sheets.removed(ALL_OFFERED, (4, 0), (3, 0), (3, 0))  # and 3 euros at an end
 
 
 def run(bench):
     steps_and_arcs(bench)
     old_motors(bench)
+    removals(bench)
     bench.put('paper', sheets.PAPER)
-    bench.put('case12', CASE_12)
+    bench.put('case12', sheets.CASE_12)
+    bench.put('removed12', sheets.CASE_12_REMOVED)
     bench.put('all', ALL_OFFERED)
+    bench.put('removed', ALL_REMOVED)
     the_paper(bench)
     table_5(bench)
     small_plans(bench)
+    removals_drawn(bench)
     many_layouts(bench)
     no_plan(bench)
     faulty_lines(bench)
@@ -78,6 +82,21 @@ def old_motors(bench):
     bench.equal(cost(sheet, 1, 1, 2), 19_053, 'maintenance ages from the start of a renovation')
 
 
+def removals(bench):
+    """Renovating and replacing pay a removal where they end before the horizon, after a plain step for each year."""
+    for activity, units in (((2, 0, 2), 150_000), ((2, 2, 4), 120_000), ((2, 0, 3), 310_000), ((2, 1, 4), 280_000)):
+        bench.equal(cost(sheets.CASE_12_REMOVED, *activity), units, f'case 12 with removal, activity {activity}')
+    for activity, units in (((0, 0, 1), 0), ((0, 0, 2), 0), ((0, 0, 0), 0), ((1, 1, 2), 9_432), ((1, 1, 3), 9_160),
+                            ((1, 2, 4), 0), ((1, 1, 1), 0), ((1, 0, 1), 9_712), ((2, 1, 3), 17_253), ((2, 2, 4), 0),
+                            ((2, 2, 3), 17_253), ((2, 0, 1), 19_039)):
+        bench.equal(cost(sheets.REMOVALS, *activity), units, f'removal, activity {activity}')
+        # Each record but the last is followed by one that begins with its lives.
+        bench.equal(cost(sheets.UNREMOVED, *activity), 0, f'no removal in version 1, activity {activity}')
+    ages = [(age, age) for age in range(1, 9)]
+    full = sheets.removed(sheets.only_replace(20, 0, 1, 19, overhauls=ages), (0, 0), (0, 0), (9, 0))
+    bench.equal(cost(full, 2, 0, 19), 450_000, 'a removal behind eight overhauls')
+
+
 def the_paper(bench):
     picture = drawn(bench, 'paper', PAPER_TOTAL, PAPER_ENDS)
     bench.equal(picture.tag, f'{SVG}svg', 'the root')
@@ -122,6 +141,21 @@ def small_plans(bench):
     bench.equal(bars(picture), ['maintain 0 to 1: 0.0000 euros'], 'a plan of one year that costs nothing')
 
 
+def removals_drawn(bench):
+    """A removal counts in its activity, and the table says so; of a plan without it the total is refused."""
+    picture = drawn(bench, 'removed12', 270_000, [0, 0, 2, 4])
+    bench.equal(bars(picture), 2 * ['replace 0 to 2: 15.0000 euros', 'replace 2 to 4: 12.0000 euros'],
+                'case 12 with removal')
+    title = 'Present value of each activity'
+    bench.holds(f'{title}, with removals before year 4' in texts(picture), 'the title of the table with removals')
+    bench.holds(title in texts(drawn(bench, 'case12', 240_000, [0, 0, 2, 4])), 'the title of the table without')
+    laid_out(bench, picture, 'case 12 with removal')
+    for sheet, total, wanted in (('removed12', 240_000, 270_000), ('case12', 270_000, 240_000),
+                                 ('removed12', 300_000, 270_000)):
+        refuse(bench, sheet, plan_bytes(total, [0, 0, 2, 4]),
+               f'plan: the total is {total} units, the activities cost {wanted}')
+
+
 def many_layouts(bench):
     """Chains and horizons of all lengths, with both charts of the budget."""
     yearly = list(range(1, 301))
@@ -131,9 +165,11 @@ def many_layouts(bench):
     for ends in ([0, 0, *yearly], [0, 0, 120, 240, 300], [1, 2, *yearly[2:]], [120, 240, 300], [90, 91, 92, 180, 300],
                  [5, 35, 95, 155, 156, 215, 300], [0, 0, *range(12, 301, 12)], [0, 0, *range(13, 286, 13), 300],
                  [3, 3, 5, 100, 200, 300], [90, 90, 210, 299, 300]):
-        lengths = [end - start for start, end in zip([0, *ends], ends)]
-        total = sum(10_000 * (10 + length) for length in lengths if length)
+        spans = [(start, end) for start, end in zip([0, *ends], ends) if start < end]
+        total = sum(10_000 * (10 + end - start) for start, end in spans)
+        removed = sum(30_000 for _, end in spans if end not in (ends[0], 300))
         laid_out(bench, drawn(bench, 'all', total, ends, '2%'), f'ends {ends}')
+        laid_out(bench, drawn(bench, 'removed', total + removed, ends, '2%'), f'ends {ends}, with removals')
     for horizon in (1, 2, 7, 16, 17, 99, 119, 120):
         bench.put('short', sheets.put(ALL_OFFERED, sheets.HORIZON, 'H', horizon))
         laid_out(bench, drawn(bench, 'short', 10_000 * (10 + horizon), [0, 0, horizon], '2%'), f'horizon {horizon}')
@@ -141,8 +177,8 @@ def many_layouts(bench):
     bench.put('short', sheets.put(ALL_OFFERED, sheets.HORIZON, 'H', 120))
     laid_out(bench, drawn(bench, 'short', 10_000 * 140, renovated, '0%'), f'ends {renovated}')
     largest = sheets.head(300, 0) + 3 * sheets.record(1, 120, 10**9, 10**9)
-    bench.put('largest', largest)
-    laid_out(bench, drawn(bench, 'largest', 600 * 10**13, [0, 0, *yearly], '5%'), 'the largest amounts')
+    bench.put('largest', sheets.removed(largest, *3 * [(10**9, 0)]))
+    laid_out(bench, drawn(bench, 'largest', 899 * 10**13, [0, 0, *yearly], '5%'), 'the largest amounts')
 
 
 def refuse(bench, sheet, plan, says):
@@ -220,13 +256,13 @@ def files_and_use(bench):
     bench.put('plan', CASE_12_LINES.encode())
     bench.put('kept.svg', b'as it was')
     bench.fails('plan: refused 1 3: ', 'plot', 'plan', 'plan2', 'kept.svg')
-    bench.put('faulty', sheets.put(CASE_12, sheets.HORIZON, 'H', 301))
+    bench.put('faulty', sheets.put(sheets.CASE_12, sheets.HORIZON, 'H', 301))
     bench.fails('faulty: refused 3 3: horizon is 301 years', 'plot', 'faulty', 'plan', 'kept.svg')
     bench.fails('none: cannot be read: ', 'plot', 'none', 'plan', 'kept.svg')
     bench.fails('none: cannot be read: ', 'plot', 'case12', 'none', 'kept.svg')
     bench.fails('none/out.svg: cannot be written: ', 'plot', 'case12', 'plan', 'none/out.svg')
     bench.fails('standard input:1: ', 'plot', 'case12', '-', 'kept.svg')
-    run = bench.program('plot', '-', 'plan', 'kept.svg', data=CASE_12)
+    run = bench.program('plot', '-', 'plan', 'kept.svg', data=sheets.CASE_12)
     bench.equal((run.status, run.out, run.err), (0, b'', ''), 'tools/plot as a program')
     bench.equal(bench.get('kept.svg'), bench.succeeds('plot', 'case12', 'plan', '-'), 'a file and standard output')
     for arguments in ([], ['case12'], ['case12', 'plan'], ['case12', 'plan', 'a.svg', '2', '%'], ['-', '-', 'a.svg'],

@@ -1,5 +1,6 @@
 """Checks of tools/sheet."""
 
+import itertools
 import os
 import resource
 import subprocess
@@ -10,7 +11,7 @@ from .harness import EXAMPLE, TOOLS
 OPTIONS = ('maintain', 'renovate', 'replace')
 PROGRAM = os.path.join(TOOLS, 'sheet')
 
-# A text with one line for each field, and the sheet that it makes.
+# A text with one line for each field but those of a removal, and the sheet that it makes.
 HEAD = ['horizon = 50 years', 'discount rate = 4 %']
 OPTION = [
     'life = 1 to 20 years',
@@ -27,9 +28,14 @@ OPTION = [
     'overhaul = 10 years, 60 euros',
 ]
 TEXT = HEAD + [line for option in OPTIONS for line in [f'[{option}]', *OPTION]]
-SHEET = bytes.fromhex('524353 0100 3200 409c0000' + 3 * (
-    '0100 1400 e8030000 10270000 64000000 88130000 204e0000 0a000000 3cf6ffff 00000000 10270000'
-    '02 050032000000 0a003c000000' + '00' * 36))
+RECORD = ('0100 1400 e8030000 10270000 64000000 88130000 204e0000 0a000000 3cf6ffff 00000000 10270000'
+          '02 050032000000 0a003c000000' + '00' * 36)
+SHEET = bytes.fromhex('524353 0100 3200 409c0000' + 3 * RECORD)
+
+# The same with a removal in each section, and its sheet of version 2.
+REMOVAL = ['removal = 70 euros', 'removal inflation = -1.5 %']
+REMOVED_TEXT = HEAD + [line for option in OPTIONS for line in [f'[{option}]', *OPTION, *REMOVAL]]
+REMOVED = bytes.fromhex('524353 0200 3200 409c0000' + 3 * (RECORD + '46000000 68c5ffff'))
 
 NOT_YEARS = ['', '50', '50 year s', '5.5 years', '5,0 years', '1e2 years', 'fifty years', '50 euros']
 NOT_RATES = ['', '4', '0.04', '4%%', '1,03 %', '1.00001 %', '.5 %', '4. %', '+4 %', '- 4 %', '4 euros', '9' * 16 + ' %']
@@ -78,19 +84,26 @@ OPTION_CASES = {
                                  ('5 years, 1,000,000,001 euros', AMOUNT_LIMIT), ('5 years, -1 euros', AMOUNT_LIMIT)],
                  ['1 year, 1,000,000,000 euros', '9 years, 0 euros']),
 }
+REMOVAL_CASES = {'removal': AMOUNT, 'removal inflation': INFLATION}
 
 
 def run(bench):
     the_example(bench)
     round_trips(bench)
     ways_to_write(bench)
-    for option in (None, *OPTIONS):
-        fields(bench, option)
+    fields(bench, TEXT, None, HEAD_CASES)
+    for option in OPTIONS:
+        fields(bench, TEXT, option, OPTION_CASES)
+        fields(bench, REMOVED_TEXT, option, REMOVAL_CASES)
     lines(bench)
     overhauls(bench)
     first_fault(bench)
     not_offered(bench)
-    refusals(bench)
+    removals(bench)
+    lengths_and_versions(bench)
+    for sheet in (SHEET, REMOVED):
+        refusals(bench, sheet)
+    removal_refusals(bench)
     streams_and_files(bench)
     wrong_use(bench)
 
@@ -107,9 +120,12 @@ def round_trips(bench):
         bench.equal(bench.succeeds('sheet', 'make', '-', '-', data=text), sheet, 'make of show')
     from nimovalsa.sheet import decode, encode
     from nimovalsa.text import read_text, show_text
-    for sheet in sheets.random_sheets(2000, seed=2):
+    drawn = sheets.random_sheets(2000, seed=2)
+    bench.equal({len(sheet) for sheet in drawn}, {278, 302}, 'the lengths of the sheets')
+    for sheet in drawn:
         text = show_text(decode(sheet))
         bench.equal(encode(read_text(text.encode(), 'text')), sheet, f'make of {text}')
+        bench.equal(text.count('removal'), 0 if len(sheet) == 278 else 6, f'lines of a removal in {text}')
 
 
 def make(bench, text):
@@ -140,10 +156,10 @@ def ways_to_write(bench):
         bench.equal(make(bench, text), SHEET, way)
 
 
-def line_of(option, field):
-    """The place of a field's first line in TEXT, from 0."""
-    start = TEXT.index(f'[{option}]') if option else 0
-    return next(at for at in range(start, len(TEXT)) if TEXT[at].startswith(f'{field} = '))
+def line_of(option, field, text=TEXT):
+    """The place of a field's first line in a text, from 0."""
+    start = text.index(f'[{option}]') if option else 0
+    return next(at for at in range(start, len(text)) if text[at].startswith(f'{field} = '))
 
 
 def refuse(bench, text, line, says):
@@ -155,29 +171,29 @@ def refuse(bench, text, line, says):
                 f'text:{line}: {says!r}: got {run}')
 
 
-def fields(bench, option):
-    """Each field of the head or of an option: not readable, out of range, at a limit, twice and missing."""
-    for field, (unreadable, outside, within) in (OPTION_CASES if option else HEAD_CASES).items():
-        at = line_of(option, field)
+def fields(bench, text, option, cases):
+    """Fields of the head or of an option: not readable, out of range, at a limit, twice and missing."""
+    for field, (unreadable, outside, within) in cases.items():
+        at = line_of(option, field, text)
         # The readers are the same in every option, so one option has all that cannot be read.
         for value in unreadable if option in (None, 'renovate') else unreadable[:1]:
-            refuse(bench, changed(at, f'{field} = {value}'), at + 1, f'{field}: cannot read ')
+            refuse(bench, changed(at, f'{field} = {value}', text), at + 1, f'{field}: cannot read ')
         for value, limit in outside:
             # The second overhaul has the age 10, so an age of 10 is refused in its line.
             line = at + 2 if value == '10 years, 1 euro' else at + 1
-            refuse(bench, changed(at, f'{field} = {value}'), line, limit)
+            refuse(bench, changed(at, f'{field} = {value}', text), line, limit)
         for value in within:
-            made = make(bench, joined(changed(at, f'{field} = {value}')))
+            made = make(bench, joined(changed(at, f'{field} = {value}', text)))
             bench.equal(bench.tool('sheet', 'show', '-', data=made).status, 0, f'show of {field} = {value}')
         if field != 'overhaul':
-            twice = TEXT[:at + 1] + ['# again', TEXT[at]] + TEXT[at + 1:]
+            twice = text[:at + 1] + ['# again', text[at]] + text[at + 1:]
             refuse(bench, twice, at + 3, f'{field} is given twice, first in line {at + 1}')
-            where, line = (f'[{option}]', TEXT.index(f'[{option}]') + 1) if option else ('the head', len(TEXT) - 1)
-            refuse(bench, TEXT[:at] + TEXT[at + 1:], line, f'{field} is missing in {where}')
+            where, line = (f'[{option}]', text.index(f'[{option}]') + 1) if option else ('the head', len(text) - 1)
+            refuse(bench, text[:at] + text[at + 1:], line, f'{field} is missing in {where}')
 
 
-def changed(at, line):
-    return TEXT[:at] + [line] + TEXT[at + 1:]
+def changed(at, line, text=TEXT):
+    return text[:at] + [line] + text[at + 1:]
 
 
 def lines(bench):
@@ -235,20 +251,76 @@ def not_offered(bench):
     refuse(bench, kept[:4] + ['maintenance = 2,000,000,000 euros'] + kept[5:], 5, AMOUNT_LIMIT)
 
 
-def refusals(bench):
-    """show of faulty sheets: number and option of the first fault."""
-    def refused(sheet, number, option, says=''):
-        bench.put('sheet', sheet)
-        bench.fails(f'sheet: refused {number} {option}: {says}', 'sheet', 'show', 'sheet')
+def removals(bench):
+    """A sheet has version 2 exactly if a section has a removal, be it 0; it is then 0 in the others."""
+    for given in itertools.product((False, True), repeat=3):
+        text = HEAD + [line for option, removed in zip(OPTIONS, given)
+                       for line in [f'[{option}]', *OPTION, *(REMOVAL if removed else [])]]
+        figures = [(70, -15_000) if removed else (0, 0) for removed in given]
+        bench.equal(make(bench, joined(text)), sheets.removed(SHEET, *figures) if any(given) else SHEET,
+                    f'removals of {given}')
+    bench.equal(make(bench, joined(REMOVED_TEXT)), REMOVED, 'a removal in each section')
+    first = HEAD + [line for option in OPTIONS for line in [f'[{option}]', *REMOVAL[::-1], *OPTION]]
+    bench.equal(make(bench, joined(first)), REMOVED, 'the lines of a removal first')
+    for amount, inflation in ((0, 0), (0, -100_000), (10**9, 40_000), (1, 1)):
+        sheet = sheets.removed(SHEET[:11] + bytes(267), (0, 0), (0, 0), (amount, inflation))
+        text = bench.succeeds('sheet', 'show', '-', data=sheet)
+        bench.equal(text.count(b'\nremoval = 0 euros\nremoval inflation = 0 %\n'), 3 if sheet[-8:] == bytes(8) else 2,
+                    f'removals in the text of {amount}, {inflation}')
+        bench.equal(make(bench, text), sheet, f'make of show of a removal of {amount}, {inflation} not offered')
+    alone = HEAD + ['[maintain]', 'life = not offered', REMOVAL[1], *TEXT[15:]]
+    refuse(bench, alone, 3, 'removal is missing in [maintain]')
+    refuse(bench, changed(4, REMOVAL[0], alone), 3, 'removal inflation is missing in [maintain]')
 
-    refused(b'', 1, 3, 'a sheet has 278 bytes, this has 0')
-    refused(SHEET[:-1], 1, 3, 'a sheet has 278 bytes, this has 277')
-    refused(SHEET + b'\0', 1, 3, 'a sheet has 278 bytes, this has more')
-    refused(b'RCP' + SHEET[3:], 2, 3, 'the first three bytes are not the mark RCS')
-    refused(sheets.put(SHEET, sheets.VERSION, 'H', 2), 2, 3, 'the version is 2, must be 1')
-    refused(sheets.put(SHEET, sheets.HORIZON, 'H', 0), 3, 3, 'horizon is 0 years, must be from 1 year to 300 years')
-    refused(sheets.put(SHEET, sheets.HORIZON, 'H', 301), 3, 3)
-    refused(sheets.put(SHEET, sheets.RATE, 'I', 200_001), 4, 3, 'discount rate is 20.0001 %, must be from 0 % to 20 %')
+
+def refused(bench, sheet, number, option, says=''):
+    """Holds if show refuses a sheet with this number and option."""
+    bench.put('sheet', sheet)
+    bench.fails(f'sheet: refused {number} {option}: {says}', 'sheet', 'show', 'sheet')
+
+
+def lengths_and_versions(bench):
+    """278 bytes go with version 1, 302 with version 2, and nothing else passes."""
+    for length in (0, 1, 10, 11, 277, 279, 289, 301):
+        for sheet in (SHEET + bytes(24), REMOVED):
+            refused(bench, sheet[:length], 1, 3, f'a sheet has 278 or 302 bytes, this has {length}\n')
+    for more in (1, 24, 1000):
+        refused(bench, REMOVED + bytes(more), 1, 3, 'a sheet has 278 or 302 bytes, this has more\n')
+    for sheet, wanted in ((SHEET, 1), (REMOVED, 2), (SHEET + bytes(24), 2), (REMOVED[:278], 1)):
+        for version in {0, 1, 2, 3, 256 + wanted, 2**16 - 1} - {wanted}:
+            refused(bench, sheets.put(sheet, sheets.VERSION, 'H', version), 2, 3,
+                    f'the version is {version}, must be {wanted} in a sheet of {len(sheet)} bytes\n')
+
+
+def removal_refusals(bench):
+    """A removal is checked in each option, offered or not: the amount with refusal 6, the inflation with 7."""
+    idle = REMOVED
+    for option in range(3):
+        for life in (sheets.SHORTEST, sheets.LONGEST):
+            idle = sheets.put_option(idle, option, life, 'H', 0)
+    amounts, inflations = (10**9 + 1, 2**32 - 1), (40_001, -100_001, 2**31 - 1, -2**31)
+    for option, sheet in itertools.product(range(3), (REMOVED, idle)):
+        for amount in amounts:
+            refused(bench, sheets.put_option(sheet, option, sheets.REMOVAL, 'I', amount), 6, option,
+                    f'{OPTIONS[option]}: removal is {amount:,} euros, {AMOUNT_LIMIT}\n')
+        for inflation in inflations:
+            faulty = sheets.put_option(sheet, option, sheets.REMOVAL_INFLATION, 'i', inflation)
+            refused(bench, faulty, 7, option, f'{OPTIONS[option]}: removal inflation is ')
+            refused(bench, sheets.put_option(faulty, option, sheets.COUNT, 'B', 9), 7, option)
+            refused(bench, sheets.put_option(faulty, option, sheets.REMOVAL, 'I', 10**9 + 1), 6, option)
+            refused(bench, sheets.put_option(faulty, 0, sheets.SHORTEST, 'H', 21), 5, 0)
+    later = sheets.put_option(REMOVED, 1, sheets.LONGEST, 'H', 121)
+    refused(bench, sheets.put_option(later, 0, sheets.REMOVAL_INFLATION, 'i', 40_001), 7, 0)
+
+
+def refusals(bench, sheet):
+    """show of faulty sheets, each a change of this one: number and option of the first fault."""
+    refused(bench, b'RCP' + sheet[3:], 2, 3, 'the first three bytes are not the mark RCS')
+    refused(bench, sheets.put(sheet, sheets.HORIZON, 'H', 0), 3, 3,
+            'horizon is 0 years, must be from 1 year to 300 years')
+    refused(bench, sheets.put(sheet, sheets.HORIZON, 'H', 301), 3, 3)
+    refused(bench, sheets.put(sheet, sheets.RATE, 'I', 200_001), 4, 3,
+            'discount rate is 20.0001 %, must be from 0 % to 20 %')
     in_a_record = [
         (5, sheets.SHORTEST, 'H', 0), (5, sheets.SHORTEST, 'H', 21), (5, sheets.LONGEST, 'H', 121),
         (6, sheets.INVESTMENT, 'I', 10**9 + 1), (6, sheets.MAINTENANCE, 'I', 10**9 + 1),
@@ -262,13 +334,13 @@ def refusals(bench):
     ]
     for option, name in enumerate(OPTIONS):
         for number, at, form, value in in_a_record:
-            refused(sheets.put_option(SHEET, option, at, form, value), number, option, f'{name}: ')
-    both = sheets.put_option(SHEET, 2, sheets.SHORTEST, 'H', 0)
-    refused(sheets.put_option(both, 1, sheets.COUNT, 'B', 9), 9, 1)
-    both = sheets.put_option(SHEET, 0, sheets.OVERHAUL_INFLATION, 'i', 40_001)
-    refused(sheets.put_option(both, 0, sheets.MAINTENANCE_AGEING, 'I', 300_001), 7, 0)
-    refused(sheets.put(both, sheets.RATE, 'I', 200_001), 4, 3)
-    refused(sheets.put(sheets.put(both, sheets.RATE, 'I', 200_001), sheets.HORIZON, 'H', 0), 3, 3)
+            refused(bench, sheets.put_option(sheet, option, at, form, value), number, option, f'{name}: ')
+    both = sheets.put_option(sheet, 2, sheets.SHORTEST, 'H', 0)
+    refused(bench, sheets.put_option(both, 1, sheets.COUNT, 'B', 9), 9, 1)
+    both = sheets.put_option(sheet, 0, sheets.OVERHAUL_INFLATION, 'i', 40_001)
+    refused(bench, sheets.put_option(both, 0, sheets.MAINTENANCE_AGEING, 'I', 300_001), 7, 0)
+    refused(bench, sheets.put(both, sheets.RATE, 'I', 200_001), 4, 3)
+    refused(bench, sheets.put(sheets.put(both, sheets.RATE, 'I', 200_001), sheets.HORIZON, 'H', 0), 3, 3)
 
 
 def streams_and_files(bench):
@@ -320,6 +392,8 @@ def wrong_use(bench):
                       ['make', '--help', 'out'], ['-h'], ['--help', 'kept']):
         bench.fails(use, 'sheet', *arguments, status=2)
     bench.fails('./text: is given twice', 'sheet', 'make', 'text', './text', status=2)
-    bench.holds(b'tools/sheet make TEXT SHEET' in bench.succeeds('sheet', '--help'), 'tools/sheet --help')
+    described = bench.succeeds('sheet', '--help').decode()
+    for line in ('tools/sheet make TEXT SHEET', *(f'{field} = ' for field in (*OPTION_CASES, *REMOVAL_CASES))):
+        bench.holds(f'    {line}' in described, f'{line} in tools/sheet --help')
     run = subprocess.run([PROGRAM, 'show', '-'], input=SHEET, stdout=subprocess.PIPE)
     bench.holds(run.returncode == 0 and run.stdout.startswith(b'horizon = 50 years\n'), 'tools/sheet as a program')

@@ -1,12 +1,12 @@
 """What an activity pays and in which year, by documents 01 and 02, in either kind of money; its cost is their sum.
 
-For electricity after a renovation document 02 is followed and not the paper: the motors go on ageing.
+Document 02 is followed where it departs from the paper: renovated, the motors go on ageing, and removal is paid for.
 """
 
 from typing import NamedTuple
 
 from .money import PresentValue
-from .plan import RENOVATE
+from .plan import MAINTAIN, RENOVATE
 
 
 class Payment(NamedTuple):
@@ -44,6 +44,8 @@ def payments(money, sheet, activity):
     yield from yearly(money, record.maintenance, record.maintenance_inflation, record.maintenance_ageing, start, years)
     motors = 0 if option == RENOVATE else start
     yield from yearly(money, record.electricity, record.electricity_inflation, record.electricity_ageing, motors, years)
+    if option != MAINTAIN and end < sheet.horizon:
+        yield once(money, record.removal, record.removal_inflation, end)
 
 
 def arc_cost(sheet, activity):

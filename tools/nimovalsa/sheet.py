@@ -1,4 +1,7 @@
-"""The planning sheet: its bytes, its fields, and the check, which is document 01's refusals 1 to 9."""
+"""The planning sheet: its bytes, its fields, and the check, which is document 01's refusals 1 to 9.
+
+Document 02's sixth request has a second version, whose records end with a removal; the layout goes by the length.
+"""
 
 import struct
 from dataclasses import dataclass, fields
@@ -11,14 +14,17 @@ OPTIONS = ('maintain', 'renovate', 'replace')
 NO_OPTION = 3  # goes with the refusals that concern no option
 
 MARK = b'RCS'
-VERSION = 1
+PLAIN, WITH_REMOVAL = 1, 2  # the versions
 ENTRIES = 8  # places for overhauls in a record
 
 HEAD = struct.Struct('<3sHHI')  # mark, version, horizon, discount rate
 RECORD = struct.Struct('<HHIiIiIIiIiB')  # the fields of Record up to the overhaul count
 OVERHAUL = struct.Struct('<HI')  # age, amount
-RECORD_BYTES = RECORD.size + ENTRIES * OVERHAUL.size
-SHEET_BYTES = HEAD.size + len(OPTIONS) * RECORD_BYTES
+REMOVAL = struct.Struct('<Ii')  # amount, inflation
+PLAIN_RECORD = RECORD.size + ENTRIES * OVERHAUL.size  # bytes; those of a removal stand behind them
+RECORD_BYTES = {PLAIN: PLAIN_RECORD, WITH_REMOVAL: PLAIN_RECORD + REMOVAL.size}
+VERSIONS = {HEAD.size + len(OPTIONS) * length: version for version, length in RECORD_BYTES.items()}  # by length
+LONGEST_SHEET = max(VERSIONS)
 
 LONGEST_HORIZON = 300
 LONGEST_LIFE = 120
@@ -40,7 +46,10 @@ UNUSED = Overhaul(0, 0)
 
 @dataclass
 class Record:
-    """What one option costs. `entries` has the overhauls and, at or past the count, the unused entries."""
+    """What one option costs. `entries` has the overhauls and, at or past the count, the unused entries.
+
+    A record of version 1 has a removal of 0.
+    """
 
     shortest: int = 0
     longest: int = 0
@@ -55,6 +64,8 @@ class Record:
     overhaul_inflation: int = 0
     count: int = 0
     entries: tuple = ENTRIES * (UNUSED,)
+    removal: int = 0
+    removal_inflation: int = 0
 
     def is_offered(self):
         return (self.shortest, self.longest) != (0, 0)
@@ -63,7 +74,8 @@ class Record:
         return self.entries[:self.count]
 
 
-SCALARS = [field.name for field in fields(Record) if field.name != 'entries']
+NAMES = [field.name for field in fields(Record)]
+SCALARS = NAMES[:NAMES.index('entries')]
 
 
 @dataclass
@@ -71,6 +83,7 @@ class Sheet:
     horizon: int
     discount_rate: int
     records: list  # by option
+    version: int = PLAIN
 
 
 class Fault(NamedTuple):
@@ -100,40 +113,45 @@ class Refused(Exception):
 def read_sheet(name):
     """The sheet of a file; a refusal is raised with the file's name."""
     try:
-        return decode(read_start(name, SHEET_BYTES + 1))
+        return decode(read_start(name, LONGEST_SHEET + 1))
     except Refused as refused:
         raise Wrong(str(refused), name) from None
 
 
 def decode(data):
     """The sheet that bytes hold, if it passes the checks."""
-    if len(data) != SHEET_BYTES:
-        length = len(data) if len(data) < SHEET_BYTES else 'more'
-        raise Refused(Fault(1, NO_OPTION, 'length', f'a sheet has {SHEET_BYTES} bytes, this has {length}'))
+    if len(data) not in VERSIONS:
+        lengths = ' or '.join(map(str, VERSIONS))
+        length = len(data) if len(data) <= LONGEST_SHEET else 'more'
+        raise Refused(Fault(1, NO_OPTION, 'length', f'a sheet has {lengths} bytes, this has {length}'))
     mark, version, horizon, rate = HEAD.unpack_from(data)
     if mark != MARK:
         raise Refused(Fault(2, NO_OPTION, 'mark', 'the first three bytes are not the mark RCS'))
-    if version != VERSION:
-        raise Refused(Fault(2, NO_OPTION, 'version', f'the version is {version}, must be {VERSION}'))
-    starts = range(HEAD.size, SHEET_BYTES, RECORD_BYTES)
-    return checked(Sheet(horizon, rate, [decode_record(data, start) for start in starts]))
+    wanted = VERSIONS[len(data)]
+    if version != wanted:
+        says = f'the version is {version}, must be {wanted} in a sheet of {len(data)} bytes'
+        raise Refused(Fault(2, NO_OPTION, 'version', says))
+    length = RECORD_BYTES[version]
+    records = [decode_record(data[start:start + length]) for start in range(HEAD.size, len(data), length)]
+    return checked(Sheet(horizon, rate, records, version))
 
 
-def decode_record(data, start):
-    overhauls = data[start + RECORD.size:start + RECORD_BYTES]
-    entries = tuple(Overhaul(*overhaul) for overhaul in OVERHAUL.iter_unpack(overhauls))
-    return Record(*RECORD.unpack_from(data, start), entries)
+def decode_record(data):
+    overhauls = OVERHAUL.iter_unpack(data[RECORD.size:PLAIN_RECORD])
+    removal = REMOVAL.unpack_from(data, PLAIN_RECORD) if len(data) > PLAIN_RECORD else ()
+    return Record(*RECORD.unpack_from(data), tuple(Overhaul(*overhaul) for overhaul in overhauls), *removal)
 
 
 def encode(sheet):
     """The bytes of a sheet that passes the checks."""
-    head = HEAD.pack(MARK, VERSION, sheet.horizon, sheet.discount_rate)
-    return head + b''.join(encode_record(record) for record in sheet.records)
+    head = HEAD.pack(MARK, sheet.version, sheet.horizon, sheet.discount_rate)
+    return head + b''.join(encode_record(record, sheet.version) for record in sheet.records)
 
 
-def encode_record(record):
+def encode_record(record, version):
     scalars = RECORD.pack(*(getattr(record, name) for name in SCALARS))
-    return scalars + b''.join(OVERHAUL.pack(*entry) for entry in record.entries)
+    removal = REMOVAL.pack(record.removal, record.removal_inflation) if version == WITH_REMOVAL else b''
+    return scalars + b''.join(OVERHAUL.pack(*entry) for entry in record.entries) + removal
 
 
 def checked(sheet):
@@ -161,11 +179,11 @@ def record_faults(record, rate):
     if record.is_offered() and not 1 <= shortest <= longest <= LONGEST_LIFE:
         yield 5, 'life', (f'life is {shortest:,} to {years(longest)}, must be from 1 to {LONGEST_LIFE} years, '
                           'the shortest first')
-    for field in ('investment', 'maintenance', 'electricity'):
+    for field in ('investment', 'maintenance', 'electricity', 'removal'):
         amount = value(record, field)
         if not 0 <= amount <= LARGEST_AMOUNT:
             yield 6, field, limits(field, euros, amount, 0, LARGEST_AMOUNT)
-    for payment in ('investment', 'maintenance', 'electricity', 'overhaul'):
+    for payment in ('investment', 'maintenance', 'electricity', 'overhaul', 'removal'):
         inflation = value(record, f'{payment} inflation')
         if not SMALLEST_INFLATION <= inflation <= rate:
             yield 7, f'{payment} inflation', (f'{payment} inflation is {per_cent(inflation)}, must be from '

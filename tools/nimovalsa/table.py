@@ -6,7 +6,7 @@ from .figures import years
 from .paper import (BELOW_HEADING, COLOURS, FAINT_INK, INK, MARGIN, RIGHT, add, baseline, exact_euros, heading, span,
                     whole_euros)
 from .plan import REPLACE
-from .sheet import OPTIONS
+from .sheet import OPTIONS, WITH_REMOVAL
 
 ROW = 24
 BAR = 14
@@ -32,7 +32,7 @@ class Row(NamedTuple):
 
 
 def draw_table(picture, top, sheet, chain, costs):
-    heading(picture, 'Present value of each activity', top)
+    heading(picture, title_of(sheet), top)
     middle = top + BELOW_HEADING + ROW / 2
     draw_line(picture, middle, 'activity', 'years', 'length', 'euros, rounded', fill=FAINT_INK)
     rows = rows_of(chain, costs)
@@ -46,6 +46,11 @@ def draw_table(picture, top, sheet, chain, costs):
     draw_line(picture, middle, 'total', span(0, sheet.horizon), years(sheet.horizon), whole_euros(sum(costs)),
               font_weight='bold')
     return middle + ROW / 2
+
+
+def title_of(sheet):
+    removals = f', with removals before year {sheet.horizon}' if sheet.version == WITH_REMOVAL else ''
+    return f'Present value of each activity{removals}'
 
 
 def draw_row(picture, middle, row, largest):

@@ -5,7 +5,8 @@ from typing import NamedTuple
 
 from .figures import euros, per_cent, read_euros, read_per_cent, read_years, years
 from .files import Wrong, WrongUse
-from .sheet import ENTRIES, OPTIONS, UNUSED, Overhaul, Record, Refused, Sheet, checked, limits, value
+from .sheet import (ENTRIES, OPTIONS, PLAIN, UNUSED, WITH_REMOVAL, Overhaul, Record, Refused, Sheet, checked, limits,
+                    value)
 
 NOT_OFFERED = 'not offered'
 SHOWN = 40  # characters of a faulty value in a message
@@ -65,7 +66,8 @@ FIGURES = {
     'electricity ageing': RATE,
     'overhaul inflation': RATE,
 }
-OPTION_FIELDS = {'life': LIFE, **FIGURES, 'overhaul': OVERHAUL}
+REMOVAL = {'removal': AMOUNT, 'removal inflation': RATE}
+OPTION_FIELDS = {'life': LIFE, **FIGURES, 'overhaul': OVERHAUL, **REMOVAL}
 
 
 class Section:
@@ -80,6 +82,15 @@ class Section:
 
     def get(self, field):
         return self.values[field][0] if field in self.values else None
+
+    def has_removal(self):
+        return any(field in self.values for field in REMOVAL)
+
+    def needs(self, field):
+        """Whether a field must be given: a removal has both of its fields, and an offered option its figures."""
+        if field in REMOVAL:
+            return self.has_removal()
+        return field == 'life' or field != 'overhaul' and self.get('life') != (0, 0)
 
     def line_of(self, fault):
         return self.lines[fault.field][fault.entry]
@@ -150,7 +161,9 @@ class TextReader:
                 raise self.wrong(f'section [{name}] is missing')
             self.refuse_missing(self.sections[name])
         head, *options = (self.sections[name] for name in ('', *OPTIONS))
-        sheet = Sheet(head.get('horizon'), head.get('discount rate'), [record_of(option) for option in options])
+        version = WITH_REMOVAL if any(option.has_removal() for option in options) else PLAIN
+        records = [record_of(option) for option in options]
+        sheet = Sheet(head.get('horizon'), head.get('discount rate'), records, version)
         try:
             return checked(sheet)
         except Refused as refused:
@@ -160,14 +173,13 @@ class TextReader:
 
     def refuse_missing(self, section):
         for field in section.kinds:
-            needed = field == 'life' or field != 'overhaul' and section.get('life') != (0, 0)
-            if needed and field not in section.values:
+            if section.needs(field) and field not in section.values:
                 raise self.wrong(f'{field} is missing in {section.title()}', section.line)
 
 
 def record_of(section):
-    """An option's record; what an option that is not offered leaves out is 0."""
-    figures = {field.replace(' ', '_'): section.get(field) or 0 for field in FIGURES}
+    """An option's record; what may be left out is then 0."""
+    figures = {field.replace(' ', '_'): section.get(field) or 0 for field in (*FIGURES, *REMOVAL)}
     overhauls = tuple(section.values.get('overhaul', ()))
     unused = (UNUSED,) * (ENTRIES - len(overhauls))
     return Record(*section.get('life'), **figures, count=len(overhauls), entries=overhauls + unused)
@@ -197,12 +209,12 @@ def show_text(sheet):
     """The text of a sheet; read again it gives the same sheet."""
     lines = [f'horizon = {years(sheet.horizon)}', f'discount rate = {per_cent(sheet.discount_rate)}']
     for name, record in zip(OPTIONS, sheet.records):
-        lines += ['', f'[{name}]', *show_record(record)]
+        lines += ['', f'[{name}]', *show_record(record, sheet.version)]
     return '\n'.join(lines) + '\n'
 
 
-def show_record(record):
-    """The lines of an option; of one that is not offered, those whose figure is not 0."""
+def show_record(record, version):
+    """The lines of an option; of one that is not offered, those whose figure is not 0, and those of a removal."""
     yield f'life = {show_life(Life(record.shortest, record.longest))}'
     for field, kind in FIGURES.items():
         figure = value(record, field)
@@ -210,3 +222,6 @@ def show_record(record):
             yield f'{field} = {kind.show(figure)}'
     for overhaul in record.overhauls():
         yield f'overhaul = {show_overhaul(overhaul)}'
+    if version == WITH_REMOVAL:
+        for field, kind in REMOVAL.items():
+            yield f'{field} = {kind.show(value(record, field))}'

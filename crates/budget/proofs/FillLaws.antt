@@ -4,6 +4,7 @@
 use Prim.Native.Nat.{ℕ, suc, _+_, _-_, _*_, _≤_, _<_}
 use mathlib.Core.Path.{_≡_, refl, ap, _∙_}
 use mathlib.Core.List.{List, _++_}
+use mathlib.Core.Bool.{Bool}
 use native.Mathlib.Omega.{arith}
 use lib.ListN.{length, getD}
 use lib.Seq.{sets}
@@ -14,12 +15,13 @@ use Rattle.base.proofs.StoreLaws.{written-only}
 use Rattle.sheet.specs.Sheet.{PlanningSheet, maintain, renovate, replace}
 use Rattle.sheet.specs.Parsed.{parsed}
 use Rattle.sheet.specs.declared.Sheet.{Sheet}
+use Rattle.sheet.proofs.ParsedLaws.{horizon-read}
 use Rattle.checking.specs.Fit.{Fit}
 use Rattle.steps.specs.Payment.{Payment, rounded}
-use Rattle.costing.specs.Arc.{keptOf, arcOf, paid, payments}
+use Rattle.costing.specs.Arc.{paysRemoval, keptOf, arcOf, paid, closing, payments}
 use Rattle.costing.specs.Fit.{yearly, Small}
 use Rattle.costing.specs.declared.Kept.{Kept}
-use Rattle.costing.proofs.SizeLaws.{paid-most, units-small}
+use Rattle.costing.proofs.SizeLaws.{whole-most, units-small}
 use Rattle.costing.proofs.SheetArcLaws.{keptOf-fits, kept-read}
 use Rattle.chain.specs.Chain.{replacements, activities, arcsOf, arcs, Feasible}
 use Rattle.chain.specs.PlanBytes.{countField, endsAt, decode}
@@ -35,33 +37,43 @@ use Rattle.budget.specs.Budget.{paymentsOf, unitsIn, unitsOf, centsIn, l
 use Rattle.budget.proofs.AddsLaws.{chain-by}
 
 -- an arc of a sheet, of the option that is kept
-module _ (s : Sheet) (option start end : ℕ) (known : option ≤ 2) (k : Kept) (made : k ≡ keptOf s option start) (old new : List ℕ) where
+module _ (s : Sheet) (option start end : ℕ) (known : option ≤ 2) (k : Kept) (made : k ≡ keptOf s option start)
+    (removed : Bool) (pays : removed ≡ paysRemoval option) (old new : List ℕ) where
+  -- all that it pays
+  abbrev paidBy : Kept → (r : Bool) (T : ℕ) → List Payment
+  paidBy a r T = paid a (end - start) ++ closing a r (end - start) T
+
+  abbrev added : List Payment
+  added = paidBy k removed (s .horizon)
+
   -- a figure that may go by the option's terms, as units go by its discount factor
   pub arc-read :
-      (ψ : Kept → Payment → ℕ) (p : PlanningSheet) → s ≡ parsed p → Raised (ψ k) old new (paid k (end - start))
+      (ψ : Kept → Payment → ℕ) (p : PlanningSheet) → s ≡ parsed p → Raised (ψ k) old new added
       → Raised (ψ (arcOf p option start end .kept)) old new (payments (arcOf p option start end))
   unfolding payments arcOf
   arc-read ψ p read h y =
-      h y ∙ ap (λ (a : Kept). getD old y 0 + fallen (ψ a) y (paid a (end - start))) (made ∙ kept-read p option start end s read known)
+      let kept = made ∙ kept-read p option start end s read known in
+      let T = horizon-read s p read in
+      h y ∙ (λ i. getD old y 0 + fallen (ψ (kept i)) y (paidBy (kept i) (pays i) (T i)))
 
   -- a year adds at most `yearly` to a word
   module _ (fit : Fit s) (forward : start ≤ end) (inside : end ≤ s .horizon) (last : ℕ) (room : Below last (start * yearly) old) where
-    figure-below :
-        (φ : Payment → ℕ) → Small φ (keptOf s option start) (end - start) → Raised φ old new (paid k (end - start)) → Below last (end * yearly) new
-    figure-below φ small h y early =
+    added-most : (φ : Payment → ℕ) → Small φ (keptOf s option start) (end - start) → sumOf φ added ≤ (end - start) * yearly
+    added-most φ small =
         let fits = keptOf-fits s fit option start known (omega arith) in
-        omega (
-          arith,
-          below-raised φ last (start * yearly) ((end - start) * yearly) old new (paid k (end - start)) room h
-              (rw made (paid-most φ (keptOf s option start) fits (end - start) small)) y early,
-        )
+        rw (made, sumOf-append φ (paid (keptOf s option start) (end - start)) _)
+        (whole-most φ (keptOf s option start) fits removed (end - start) (s .horizon) small)
 
-    pub units-below : Raised (rounded (k .discount)) old new (paid k (end - start)) → Below last (end * yearly) new
+    figure-below : (φ : Payment → ℕ) → Small φ (keptOf s option start) (end - start) → Raised φ old new added → Below last (end * yearly) new
+    figure-below φ small h y early =
+        omega (arith, below-raised φ last (start * yearly) ((end - start) * yearly) old new added room h (added-most φ small) y early)
+
+    pub units-below : Raised (rounded (k .discount)) old new added → Below last (end * yearly) new
     units-below h =
         let fits = keptOf-fits s fit option start known (omega arith) in
         figure-below (rounded (k .discount)) (rw made (units-small (keptOf s option start) fits (end - start) (omega (arith, fit .horizonHigh)))) h
 
-    pub cents-below : (m : Money) → MoneyFits m → Raised (inMoney m) old new (paid k (end - start)) → Below last (end * yearly) new
+    pub cents-below : (m : Money) → MoneyFits m → Raised (inMoney m) old new added → Below last (end * yearly) new
     cents-below m counts h =
         figure-below (inMoney m) (cents-small m counts (keptOf s option start) (keptOf-fits s fit option start known (omega arith)) (end - start)) h
 

@@ -9,7 +9,7 @@ use Rattle.base.specs.Cases.{Case}
 use Rattle.base.specs.declared.Answer.{Answer}
 use Rattle.sheet.specs.CaseBytes.{bytes32, headerBytes, recordBytes}
 use Rattle.checking.specs.CaseSheets.{rateAt}
-use Rattle.costing.specs.CaseSheets.{noOverhaul, oneOverhaul, replaceSheet, sheet12, distinctSheet}
+use Rattle.costing.specs.CaseSheets.{noOverhaul, oneOverhaul, replaceSheet, sheet12, distinctSheet, longSheet12, removalSheet}
 use Rattle.chain.specs.CasePlans.{planOf, replacing}
 use Rattle.budget.specs.Budget.{budgetAnswer, unitsAfter, centsAfter}
 
@@ -47,6 +47,10 @@ renovatedPlan = planOf (replicate 8 0) 4 9 []
 abbrev pub replacedPlan : List ℕ
 replacedPlan = planOf (replicate 8 255) 0 5 (9 ∷ [])
 
+-- maintaining to 1, renovating to 2, replacements to 3 and 4, T of the sheet with removals alone
+abbrev pub removalPlan : List ℕ
+removalPlan = planOf (replicate 8 0) 1 2 (3 ∷ 4 ∷ [])
+
 abbrev pub casesOfWords : List Case
 casesOfWords =
     -- in cents, word 2 tells the order of the rates and the three roundings of a year: general last gives 722, ageing last 724, one rounding 721
@@ -56,6 +60,12 @@ casesOfWords =
     -- an overhaul is paid in the year of its age; the next investment in the year in which the arc before it ends, with that arc's last flows
     ∷ unitsCase sheet12 (replacing 0 (3 ∷ 4 ∷ [])) 0 5 5 (100_000 ∷ 10_000 ∷ 160_000 ∷ 110_000 ∷ 10_000 ∷ [])
     ∷ centsCase sheet12 (replacing 0 (2 ∷ 4 ∷ [])) 50_000 5 5 (1_000 ∷ 105 ∷ 1_214 ∷ 117 ∷ 123 ∷ [])
+    -- removal 3 is paid in year 2, in which the first replacement ends, and none at T: without it word 2 would be 110,000 and 1,214
+    ∷ unitsCase longSheet12 (replacing 0 (2 ∷ 4 ∷ [])) 50_000 5 5 (100_000 ∷ 10_000 ∷ 140_000 ∷ 10_000 ∷ 10_000 ∷ [])
+    ∷ centsCase longSheet12 (replacing 0 (2 ∷ 4 ∷ [])) 50_000 5 5 (1_000 ∷ 105 ∷ 1_545 ∷ 117 ∷ 123 ∷ [])
+    -- a renovation that ends in year 2 and a replacement that ends in year 3 each pay their own, after as many plain steps; maintaining pays none
+    ∷ unitsCase removalSheet removalPlan 20_000 5 5 (0 ∷ 0 ∷ 9_432 ∷ 17_253 ∷ 0 ∷ [])
+    ∷ centsCase removalSheet removalPlan 20_000 5 5 (0 ∷ 0 ∷ 109 ∷ 208 ∷ 0 ∷ [])
     -- every field of a record goes into the words of its option; from year 5 on the electricity of the renovation has as many years in service as it is
     -- after year 0: with new motors word 5 would be 32,208,004 and 453,857
     ∷ unitsCase distinctSheet renovatedPlan 20_000 10 10

@@ -57,9 +57,10 @@ fn add_activity(
     ensures room { λ _. ⌜ Below (sheet .horizon) (end * yearly) (now (units .exit)) × Below (money .last) (end * yearly) (now (cents .exit)) ⌝ }
 {
     let kept = costing::kept_of(sheet, option, start);
+    let removed = costing::pays_removal(option);
     let years = end - start;
-    spreading::units::add_arc(units, kept, discount, years);
-    spreading::cents::add_arc(cents, kept, money, years);
+    spreading::units::add_arc(units, kept, discount, removed, years, sheet.horizon);
+    spreading::cents::add_arc(cents, kept, money, removed, years, sheet.horizon);
 }
 
 // Adds what replacements from a year on pay: that many, whose ends stand from byte 19 on.

@@ -1,8 +1,9 @@
 -- Laws of `Feasible`: a chain is feasible exactly where maintaining and renovating are offered and replacements, each of a year or more
--- (`replace-forward`), lead to T (`feasible-parts`); its years are in order (`ordered-of-feasible`, `climbs-rest`), its replacements at most T
--- (`few-ends`), its numbers narrow (`narrow-of-feasible`), and its bytes give it back (`decode-feasible`). Assumes nothing.
+-- (`replace-forward`), lead to T (`feasible-parts`); its years are in order (`ordered-of-feasible`, `climbs-rest`), its activities follow each
+-- other from 0 to T (`feasible-linked`), its replacements are at most T (`few-ends`), its numbers narrow (`narrow-of-feasible`), and its bytes
+-- give it back (`decode-feasible`). Assumes nothing.
 use Prim.Native.Nat.{ℕ, _+_, _≤_, _<_}
-use mathlib.Core.Path.{_≡_}
+use mathlib.Core.Path.{_≡_, refl}
 use mathlib.Core.List.{List, [], _∷_}
 use mathlib.Core.Logic.{_↔_, ⊎-elim}
 use native.Mathlib.Omega.{arith}
@@ -11,9 +12,9 @@ use Rattle.base.specs.Lists.{Every}
 use Rattle.base.proofs.ListsLaws.{every-map}
 use Rattle.sheet.specs.Sheet.{PlanningSheet, maintain, renovate, replace}
 use Rattle.costing.specs.Offered.{Offered}
-use Rattle.chain.specs.Chain.{Chain, replacements, activities, Rising, OffersActivity, Reaches, Feasible}
+use Rattle.chain.specs.Chain.{Chain, replacements, activities, Rising, last, OffersActivity, Reaches, Feasible}
 use Rattle.chain.specs.PlanBytes.{encode, decode, Narrow}
-use Rattle.chain.specs.Ordered.{Climbs, Ordered}
+use Rattle.chain.specs.Ordered.{Climbs, Ordered, Linked}
 use Rattle.chain.proofs.PlanBytesLaws.{decode-encode}
 
 -- without the first of the years
@@ -56,6 +57,15 @@ module _ (p : PlanningSheet) where
   pub ordered-of-feasible : (c : Chain) → Feasible p c → Ordered (p .horizon) c
   ordered-of-feasible c h =
       record { ordered = h .ordered; climbs = record { early = h .inside .1 .0; rising = h .rising; inside = h .inside .1 .1 } }
+
+replacements-linked : (y : ℕ) (ks : List ℕ) → Linked y (replacements y ks) (last y ks)
+unfolding replacements last
+replacements-linked y [] = refl
+replacements-linked y (k ∷ ks) = (refl, replacements-linked k ks)
+
+pub feasible-linked : (p : PlanningSheet) (c : Chain) → Feasible p c → Linked 0 (activities c) (p .horizon)
+unfolding activities
+feasible-linked p c h = rw (← h .arrived) (refl, (refl, replacements-linked (c .j) (c .ends)))
 
 -- rising years are few
 rising-length : (T y : ℕ) (ks : List ℕ) → Climbs T y ks → length ks + y ≤ T

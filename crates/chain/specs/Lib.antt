@@ -4,7 +4,7 @@
 --     Years: chains as lists of years
 --     Error: how far a total may lie from the exact value
 --     PlanBytes: the bytes of a plan, written and read
---     Ordered: what the code asks that goes through the arcs of a chain
+--     Ordered: years in order, and activities that follow each other
 --     CasePlans: the bytes of plans for the cases
 pub mod Chain
 pub mod ChosenChain

@@ -3,15 +3,17 @@ use mathlib.Core.Path.{refl}
 use Rattle.base.specs.Numbers.{u16At, u32At, i32At}
 use Rattle.base.specs.Answer.{_unless_else_}
 use Rattle.base.specs.Cases.{AllHold}
-use Rattle.sheet.specs.Sheet.{expenseAt, onceAt, optionAt, sheetOf, factor}
+use Rattle.sheet.specs.Layout.{recordLength}
+use Rattle.sheet.specs.Sheet.{expenseAt, onceAt, overhaulAt, removalAt, optionAt, sheetOf, factor}
 use Rattle.checking.specs.Refusals.{inflationOk, inflationsOk, ageingOk, ageingsOk, ageBefore, overhaulOk, headerNumber, fieldsNumber, overhaulAnswer, firstBelow, optionAnswer, checked}
-use Rattle.checking.specs.Cases.{casesOfChecking, casesOfOrder}
+use Rattle.checking.specs.Cases.{casesOfChecking, casesOfOrder, casesOfLong}
 
--- both lists at once, by the same definitions
-cases-hold : AllHold casesOfChecking × AllHold casesOfOrder
-unfolding u16At u32At i32At expenseAt onceAt optionAt sheetOf factor _unless_else_ inflationOk inflationsOk ageingOk ageingsOk ageBefore overhaulOk headerNumber fieldsNumber overhaulAnswer firstBelow optionAnswer checked
+-- all lists at once, by the same definitions
+cases-hold : AllHold casesOfChecking × AllHold casesOfOrder × AllHold casesOfLong
+unfolding u16At u32At i32At recordLength expenseAt onceAt overhaulAt removalAt optionAt sheetOf factor _unless_else_ inflationOk inflationsOk ageingOk ageingsOk ageBefore overhaulOk headerNumber fieldsNumber overhaulAnswer firstBelow optionAnswer checked
 cases-hold = (
   (refl, (refl, (refl, (refl, (refl, (refl, (refl, (refl, (refl, (refl, (refl, (refl, (refl, (refl, (refl, (refl, (refl, (refl, (refl, (refl, (refl, (refl, (refl, (refl, tt)))))))))))))))))))))))),
+  (refl, (refl, (refl, (refl, (refl, (refl, (refl, (refl, (refl, (refl, (refl, (refl, (refl, (refl, (refl, (refl, tt)))))))))))))))),
   (refl, (refl, (refl, (refl, (refl, (refl, (refl, (refl, (refl, (refl, (refl, (refl, (refl, (refl, (refl, (refl, tt)))))))))))))))),
 )
 
@@ -20,3 +22,6 @@ checking-cases-hold = cases-hold .0
 
 pub order-cases-hold : AllHold casesOfOrder
 order-cases-hold = cases-hold .1
+
+pub long-cases-hold : AllHold casesOfLong
+long-cases-hold = cases-hold .2

@@ -14,7 +14,7 @@ use Rattle.base.proofs.TestLaws.{by-test, leZ-iff}
 use Rattle.sheet.specs.Sheet.{Expense, OptionRecord, sheetOf, factor}
 use Rattle.sheet.specs.Parsed.{flowOf, overhaulsOf, termsOf, parsed}
 use Rattle.sheet.proofs.FactorLaws.{factor-low, factor-high}
-use Rattle.sheet.proofs.ParsedLaws.{getD-options, investment-ageing}
+use Rattle.sheet.proofs.ParsedLaws.{getD-options, investment-ageing, removal-ageing}
 use Rattle.checking.specs.Refusals.{ageBefore}
 use Rattle.checking.specs.Passes.{AmountPasses, InflationPasses, AgeingPasses, OptionPasses, Passes}
 use Rattle.checking.specs.Fit.{GrowFits, FlowFits, OverhaulsFit, TermsFit, Fit}
@@ -70,9 +70,11 @@ overhauls-fit r o h =
       amount = λ j l. rw (entry-amount v o refl j (omega arith)) (h .used j l .amount);
     }
 
-terms-fit : (r : ℕ) (o : OptionRecord) → o .investment .ageing ≡ 0 → OptionPasses r o → TermsFit (1_000_000 + r) (termsOf o)
+terms-fit :
+    (r : ℕ) (o : OptionRecord) → o .investment .ageing ≡ 0 → o .removal .ageing ≡ 0 → OptionPasses r o
+    → TermsFit (1_000_000 + r) (termsOf o)
 unfolding termsOf
-terms-fit r o z h =
+terms-fit r o z y h =
     record {
       lives = ⊎-elim (λ l. omega arith) (λ l. omega arith) (h .lives);
       longest = ⊎-elim (λ l. omega arith) (λ l. omega arith) (h .lives);
@@ -83,11 +85,12 @@ terms-fit r o z h =
       maintenance = flow-fits r (o .maintenance) (h .maintenanceAmount) (h .maintenanceInflation) (h .maintenanceAgeing);
       electricity = flow-fits r (o .electricity) (h .electricityAmount) (h .electricityInflation) (h .electricityAgeing);
       overhauls = overhauls-fit r o h;
+      removal = flow-fits r (o .removal) (h .removalAmount) (h .removalInflation) (once-ages r (o .removal) y (h .removalInflation));
     }
 
 -- an option of a sheet that passes, over document 01's record
 pub option-fit : (s : List ℕ) → Passes s → (k : ℕ) → k < 3 → TermsFit (1_000_000 + sheetOf s .rate) (termsOf (sheetOf s .option k))
-option-fit s h k l = terms-fit (sheetOf s .rate) (sheetOf s .option k) (investment-ageing s k) (h .options k l)
+option-fit s h k l = terms-fit (sheetOf s .rate) (sheetOf s .option k) (investment-ageing s k) (removal-ageing s k) (h .options k l)
 
 pub fit : (s : List ℕ) → Passes s → Fit (parsed (sheetOf s))
 unfolding parsed

@@ -13,21 +13,30 @@ use borrow.Author.Tests.{ltb-true, ltb-false}
 use Rattle.base.specs.Answer.{_unless_else_}
 use Rattle.base.proofs.TestLaws.{by-test, leb-iff, ltb-iff, eqb-iff, leZ-iff, both-iff, either-iff}
 use Rattle.base.proofs.AnswerLaws.{unless-iff, answered-iff, orElse-iff}
-use Rattle.sheet.specs.Layout.{sheetLength}
+use Rattle.sheet.specs.Layout.{lengthOk, Sized}
 use Rattle.sheet.specs.Sheet.{Expense, OptionRecord, PlanningSheet, sheetOf, factor}
+use Rattle.sheet.proofs.LayoutLaws.{sized}
 use Rattle.checking.specs.Refusals.{inflationOk, inflationsOk, ageingOk, ageingsOk, ageBefore, overhaulOk, headerNumber, fieldsNumber, overhaulAnswer, firstBelow, optionAnswer, checked}
 use Rattle.checking.specs.Passes.{InflationPasses, AgeingPasses, UsedPasses, UnusedPasses, OptionPasses, HeaderPasses, Passes}
 use Rattle.checking.proofs.FirstLaws.{first-iff}
+
+length-iff : (s : List ℕ) → (lengthOk (length s) ≡ true) ↔ ((length s ≡ 278) ⊎ (length s ≡ 302))
+length-iff s = either-iff (eqb-iff (length s) 278) (eqb-iff (length s) 302)
+
+-- such a sheet can be read
+pub header-sized : (s : List ℕ) → HeaderPasses s → Sized s
+header-sized s h = sized s (length-iff s .1 (h .long))
 
 pub header-iff : (s : List ℕ) → (headerNumber s ≡ 0) ↔ HeaderPasses s
 unfolding headerNumber
 header-iff s =
     Iff·trans
-    (unless-iff 1 (lit< tt) (eqb-iff (length s) sheetLength)
+    (unless-iff 1 (lit< tt) (length-iff s)
     (unless-iff 2 (lit< tt)
     (both-iff
     (both-iff (both-iff (eqb-iff (getD s 0 0) 82) (eqb-iff (getD s 1 0) 67)) (eqb-iff (getD s 2 0) 83))
-    (eqb-iff (sheetOf s .version) 1))
+    (either-iff (both-iff (eqb-iff (length s) 278) (eqb-iff (sheetOf s .version) 1))
+    (both-iff (eqb-iff (length s) 302) (eqb-iff (sheetOf s .version) 2))))
     (unless-iff 3 (lit< tt) (both-iff (leb-iff 1 (sheetOf s .horizon)) (leb-iff (sheetOf s .horizon) 300))
     (unless-iff 4 (lit< tt) (leb-iff (sheetOf s .rate) 200_000)
     Iff·rfl)))) (
@@ -110,13 +119,17 @@ option-iff p k =
     (either-iff (both-iff (eqb-iff (o .shortest) 0) (eqb-iff (o .longest) 0))
     (both-iff (both-iff (leb-iff 1 (o .shortest)) (leb-iff (o .shortest) (o .longest))) (leb-iff (o .longest) 120)))
     (unless-iff 6 (lit< tt)
+    (both-iff
     (both-iff (both-iff (leb-iff (o .investment .amount) 1_000_000_000) (leb-iff (o .maintenance .amount) 1_000_000_000))
     (leb-iff (o .electricity .amount) 1_000_000_000))
+    (leb-iff (o .removal .amount) 1_000_000_000))
     (unless-iff 7 (lit< tt)
+    (both-iff
     (both-iff
     (both-iff (both-iff (inflation-iff r (o .investment .inflation)) (inflation-iff r (o .maintenance .inflation)))
     (inflation-iff r (o .electricity .inflation)))
     (inflation-iff r (o .overhaulInflation)))
+    (inflation-iff r (o .removal .inflation)))
     (unless-iff 8 (lit< tt) (both-iff (ageing-iff r (o .maintenance)) (ageing-iff r (o .electricity)))
     (unless-iff 9 (lit< tt) (leb-iff (o .overhaulCount) 8)
     Iff·rfl))))) in
@@ -126,13 +139,15 @@ option-iff p k =
           let e = overhauls-iff o k (f .1 .1 .1 .1 .0) .0 (first-iff 8 (overhaulAnswer o k) .0 (h .1)) in
           record {
             lives = ⊎-elim (λ l. inl l) (λ l. inr (l .0 .0, l .0 .1, l .1)) (f .0);
-            investmentAmount = f .1 .0 .0 .0;
-            maintenanceAmount = f .1 .0 .0 .1;
-            electricityAmount = f .1 .0 .1;
-            investmentInflation = f .1 .1 .0 .0 .0 .0;
-            maintenanceInflation = f .1 .1 .0 .0 .0 .1;
-            electricityInflation = f .1 .1 .0 .0 .1;
-            overhaulInflation = f .1 .1 .0 .1;
+            investmentAmount = f .1 .0 .0 .0 .0;
+            maintenanceAmount = f .1 .0 .0 .0 .1;
+            electricityAmount = f .1 .0 .0 .1;
+            removalAmount = f .1 .0 .1;
+            investmentInflation = f .1 .1 .0 .0 .0 .0 .0;
+            maintenanceInflation = f .1 .1 .0 .0 .0 .0 .1;
+            electricityInflation = f .1 .1 .0 .0 .0 .1;
+            overhaulInflation = f .1 .1 .0 .0 .1;
+            removalInflation = f .1 .1 .0 .1;
             maintenanceAgeing = f .1 .1 .1 .0 .0;
             electricityAgeing = f .1 .1 .1 .0 .1;
             count = f .1 .1 .1 .1 .0;
@@ -143,9 +158,9 @@ option-iff p k =
         fields .1 (
           ⊎-elim (λ l. inl l) (λ l. inr ((l .0, l .1), l .2)) (h .lives),
           (
-            ((h .investmentAmount, h .maintenanceAmount), h .electricityAmount),
+            (((h .investmentAmount, h .maintenanceAmount), h .electricityAmount), h .removalAmount),
             (
-              (((h .investmentInflation, h .maintenanceInflation), h .electricityInflation), h .overhaulInflation),
+              ((((h .investmentInflation, h .maintenanceInflation), h .electricityInflation), h .overhaulInflation), h .removalInflation),
               ((h .maintenanceAgeing, h .electricityAgeing), (h .count, refl)),
             ),
           ),

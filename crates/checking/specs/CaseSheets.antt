@@ -1,9 +1,9 @@
--- The sheets of the cases of checking: one that passes with its fields at their limits, and that sheet with one field changed. The bytes and
--- places are written out. Definitions only.
+-- The sheets of the cases of checking: one that passes with its fields at their limits, the longer one of the same records with removals, and these
+-- with a field or two changed. The bytes and places are written out. Definitions only.
 use Prim.Native.Nat.{ℕ, _+_, _*_}
 use mathlib.Core.List.{List, [], _∷_, _++_, map}
 use lib.Seq.{sets}
-use Rattle.sheet.specs.CaseBytes.{bytes16, bytes32, minus, headerBytes, recordBytes}
+use Rattle.sheet.specs.CaseBytes.{bytes16, bytes32, minus, headerBytes, longHeaderBytes, recordBytes, removalBytes}
 
 -- the places of version, T and r
 abbrev pub versionAt : ℕ
@@ -109,3 +109,31 @@ putBoth place number other otherNumber = sets (put32 other otherNumber) place (b
 -- r 200,000 and an ageing of renovate: with f −100,000 the product allows ageings up to 333,333
 abbrev pub aged : (place number : ℕ) → List ℕ
 aged place number = putBoth rateAt 200_000 place number
+
+-- the longer sheet: version 2, and the same records with removals, of 10^9 with f 40,000, of 0 with f −100,000, and of 6 with f 0
+abbrev pub longLimits : List ℕ
+longLimits =
+    longHeaderBytes 300 40_000
+    ++ largest
+    ++ removalBytes 1_000_000_000 40_000
+    ++ smallest
+    ++ removalBytes 0 (minus 100_000)
+    ++ notOffered
+    ++ removalBytes 6 0
+
+-- the places of option k's record in it, and of its removal and the inflation of that
+abbrev pub longRecordAt : (k : ℕ) → ℕ
+longRecordAt k = 11 + 97 * k
+
+abbrev pub removalPlace : (k : ℕ) → ℕ
+removalPlace k = longRecordAt k + 89
+
+abbrev pub removalInflationPlace : (k : ℕ) → ℕ
+removalInflationPlace k = longRecordAt k + 93
+
+-- that sheet with other bytes from a place on, and with others from a second place on
+abbrev pub longWith : (place : ℕ) (bytes : List ℕ) → List ℕ
+longWith place bytes = sets longLimits place bytes
+
+abbrev pub longBoth : (place : ℕ) (bytes : List ℕ) (other : ℕ) (otherBytes : List ℕ) → List ℕ
+longBoth place bytes other otherBytes = sets (longWith other otherBytes) place bytes

@@ -1,6 +1,6 @@
 -- Refusals 1 to 9 at their limits (`casesOfChecking`), and sheets with two faults, which tell the order of the check (`casesOfOrder`):
--- document 01, 'Refusal table'. `CaseLaws.antt` evaluates them. Definitions only.
-use Prim.Native.Nat.{ℕ}
+-- document 01, 'Refusal table'. Then the longer sheet (`casesOfLong`): document 02, request 6. `CaseLaws.antt` evaluates them. Definitions only.
+use Prim.Native.Nat.{ℕ, _+_}
 use mathlib.Core.List.{List, [], _∷_, _++_, map}
 use lib.ListN.{take}
 use lib.Seq.{sets}
@@ -9,7 +9,7 @@ use Rattle.base.specs.Cases.{Case}
 use Rattle.base.specs.declared.Answer.{Answer}
 use Rattle.sheet.specs.CaseBytes.{bytes16, bytes32, minus}
 use Rattle.checking.specs.Refusals.{checked}
-use Rattle.checking.specs.CaseSheets.{versionAt, horizonAt, rateAt, recordAt, investmentInflationAt, maintenanceAgeingAt, electricityAt, electricityAgeingAt, overhaulInflationAt, overhaulCountAt, ageAt, amountAt, amountsAt, inflationsAt, ageingsAt, limits, put8, put16, put32, putLives, putEach, putBoth, aged}
+use Rattle.checking.specs.CaseSheets.{versionAt, horizonAt, rateAt, recordAt, investmentInflationAt, maintenanceAgeingAt, electricityAt, electricityAgeingAt, overhaulInflationAt, overhaulCountAt, ageAt, amountAt, amountsAt, inflationsAt, ageingsAt, limits, put8, put16, put32, putLives, putEach, putBoth, aged, longLimits, longRecordAt, removalPlace, removalInflationPlace, longWith, longBoth}
 
 -- each of some sheets has the same answer
 abbrev pub each : Answer → List (List ℕ) → Case
@@ -76,4 +76,29 @@ casesOfOrder =
     ∷ each (refused 6 0) (putBoth (electricityAt 0) 1_000_000_001 (electricityAt 1) 1_000_000_001 ∷ [])
     ∷ each (refused 6 1) (putBoth (electricityAt 1) 1_000_000_001 (electricityAt 2) 1_000_000_001 ∷ [])
     ∷ each (refused 9 0) (putBoth (amountAt 0 2) 1_000_000_001 (amountAt 0 5) 1_000_000_001 ∷ [])
+    ∷ []
+
+-- 302 bytes: the lengths beside it, the versions that do not go with the length, the removal fields past their limits at each option, and their
+-- place in the order
+abbrev pub casesOfLong : List Case
+casesOfLong =
+    each (accepted 0) (longLimits ∷ [])
+    ∷ each (refused 1 3) (take 279 longLimits ∷ take 301 longLimits ∷ (longLimits ++ 0 ∷ []) ∷ [])
+    -- 302 bytes with versions 0, 1 and 3; 278 bytes of the longer sheet, which have version 2
+    ∷ each (refused 2 3) (longWith versionAt (bytes16 0) ∷ longWith versionAt (bytes16 1) ∷ longWith versionAt (bytes16 3) ∷ take 278 longLimits ∷ [])
+    ∷ each (refused 6 0) (longWith (removalPlace 0) (bytes32 1_000_000_001) ∷ [])
+    ∷ each (refused 6 1) (longWith (removalPlace 1) (bytes32 1_000_000_001) ∷ [])
+    ∷ each (refused 6 2) (longWith (removalPlace 2) (bytes32 1_000_000_001) ∷ [])
+    ∷ each (refused 7 0) (longWith (removalInflationPlace 0) (bytes32 40_001) ∷ [])
+    ∷ each (refused 7 1) (longWith (removalInflationPlace 1) (bytes32 40_001) ∷ longWith (removalInflationPlace 1) (bytes32 (minus 100_001)) ∷ [])
+    ∷ each (refused 7 2) (longWith (removalInflationPlace 2) (bytes32 40_001) ∷ [])
+    -- 5 before 6, and 6 before 7, at the removal of one option; 6 at its removal before 7 at its investment; 7 at its removal before 9 at its last overhaul
+    ∷ each (refused 5 0) (longBoth (longRecordAt 0) (bytes16 2 ++ bytes16 1) (removalPlace 0) (bytes32 1_000_000_001) ∷ [])
+    ∷ each (refused 6 1) (longWith (removalPlace 1) (bytes32 1_000_000_001 ++ bytes32 40_001) ∷ [])
+    ∷ each (refused 6 1) (longBoth (removalPlace 1) (bytes32 1_000_000_001) (longRecordAt 1 + 8) (bytes32 40_001) ∷ [])
+    ∷ each (refused 7 2) (longBoth (removalInflationPlace 2) (bytes32 40_001) (longRecordAt 2 + 85) (bytes32 1) ∷ [])
+    -- the removal of an option before the lives of the next; each record at its own place
+    ∷ each (refused 7 0) (longWith (removalInflationPlace 0) (bytes32 40_001 ++ bytes16 2 ++ bytes16 1) ∷ [])
+    ∷ each (refused 5 1) (longWith (longRecordAt 1) (bytes16 2 ++ bytes16 1) ∷ [])
+    ∷ each (refused 5 2) (longWith (longRecordAt 2) (bytes16 2 ++ bytes16 1) ∷ [])
     ∷ []

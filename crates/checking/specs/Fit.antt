@@ -41,6 +41,7 @@ pub record TermsFit (discount : ℕ) (t : Terms) : Type 0 where
   pub maintenance : FlowFits discount (t .maintenance)
   pub electricity : FlowFits discount (t .electricity)
   pub overhauls : OverhaulsFit discount (t .overhauls)
+  pub removal : FlowFits discount (t .removal)
 
 -- a whole sheet
 pub record Fit (p : Sheet) : Type 0 where

@@ -7,7 +7,6 @@ use mathlib.Core.Logic.{_⊎_}
 use lib.ListN.{length, getD}
 use lib.IntN.{ℤ, pos, negℤ}
 use lib.Signed.{_≤ℤ_}
-use Rattle.sheet.specs.Layout.{sheetLength}
 use Rattle.sheet.specs.Sheet.{Expense, OptionRecord, sheetOf, factor}
 use Rattle.checking.specs.Refusals.{ageBefore}
 
@@ -48,10 +47,12 @@ pub record OptionPasses (r : ℕ) (o : OptionRecord) : Type 0 where
   pub investmentAmount : AmountPasses (o .investment .amount)
   pub maintenanceAmount : AmountPasses (o .maintenance .amount)
   pub electricityAmount : AmountPasses (o .electricity .amount)
+  pub removalAmount : AmountPasses (o .removal .amount)
   pub investmentInflation : InflationPasses r (o .investment .inflation)
   pub maintenanceInflation : InflationPasses r (o .maintenance .inflation)
   pub electricityInflation : InflationPasses r (o .electricity .inflation)
   pub overhaulInflation : InflationPasses r (o .overhaulInflation)
+  pub removalInflation : InflationPasses r (o .removal .inflation)
   pub maintenanceAgeing : AgeingPasses r (o .maintenance)
   pub electricityAgeing : AgeingPasses r (o .electricity)
   pub count : o .overhaulCount ≤ 8
@@ -60,9 +61,9 @@ pub record OptionPasses (r : ℕ) (o : OptionRecord) : Type 0 where
 
 -- 1 to 4 for a sheet
 pub record HeaderPasses (s : List ℕ) : Type 0 where
-  pub long : length s ≡ sheetLength
+  pub long : (length s ≡ 278) ⊎ (length s ≡ 302)
   pub mark : (getD s 0 0 ≡ 82) × (getD s 1 0 ≡ 67) × (getD s 2 0 ≡ 83)
-  pub version : sheetOf s .version ≡ 1
+  pub version : ((length s ≡ 278) × (sheetOf s .version ≡ 1)) ⊎ ((length s ≡ 302) × (sheetOf s .version ≡ 2))
   pub horizon : (1 ≤ sheetOf s .horizon) × (sheetOf s .horizon ≤ 300)
   pub rate : sheetOf s .rate ≤ 200_000
 

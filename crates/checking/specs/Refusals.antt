@@ -10,15 +10,15 @@ use lib.IntN.{ℤ, pos, negℤ}
 use lib.Signed.{leZ}
 use Rattle.base.specs.Answer.{accepted, answered, _unless_else_, _orElse_}
 use Rattle.base.specs.declared.Answer.{Answer}
-use Rattle.sheet.specs.Layout.{sheetLength}
+use Rattle.sheet.specs.Layout.{lengthOk}
 use Rattle.sheet.specs.Sheet.{Expense, OptionRecord, PlanningSheet, sheetOf, factor}
 
--- 2: the mark, `RCS` in ASCII, and the version
+-- 2: the mark, `RCS` in ASCII, and the version that goes with the length
 abbrev pub markOk : List ℕ → Bool
 markOk s = eqb (getD s 0 0) 82 && eqb (getD s 1 0) 67 && eqb (getD s 2 0) 83
 
-abbrev pub versionOk : ℕ → Bool
-versionOk version = eqb version 1
+abbrev pub versionOk : (bytes version : ℕ) → Bool
+versionOk bytes version = (eqb bytes 278 && eqb version 1) || (eqb bytes 302 && eqb version 2)
 
 -- 3: T from 1 to 300
 abbrev pub horizonOk : ℕ → Bool
@@ -37,19 +37,20 @@ livesOk shortest longest =
 abbrev pub amountOk : ℕ → Bool
 amountOk amount = leb amount 1_000_000_000
 
--- 6: investment, maintenance and electricity
-abbrev pub amountsOk : ℕ → ℕ → ℕ → Bool
-amountsOk investment maintenance electricity = amountOk investment && amountOk maintenance && amountOk electricity
+-- 6: investment, maintenance, electricity and removal
+abbrev pub amountsOk : (investment maintenance electricity removal : ℕ) → Bool
+amountsOk investment maintenance electricity removal =
+    amountOk investment && amountOk maintenance && amountOk electricity && amountOk removal
 
 -- 7: an inflation is from −100,000 to r
 unfoldable pub inflationOk : ℕ → ℤ → Bool
 inflationOk r f = leZ (negℤ (pos 100_000)) f && leZ f (pos r)
 
--- 7: the four inflations
+-- 7: the five inflations
 unfoldable pub inflationsOk : ℕ → OptionRecord → Bool
 inflationsOk r o =
     inflationOk r (o .investment .inflation) && inflationOk r (o .maintenance .inflation)
-    && inflationOk r (o .electricity .inflation) && inflationOk r (o .overhaulInflation)
+    && inflationOk r (o .electricity .inflation) && inflationOk r (o .overhaulInflation) && inflationOk r (o .removal .inflation)
 
 -- 8: an ageing is at most 300,000, and (10^6 + f)(10^6 + g) at most 10^6 (10^6 + r)
 unfoldable pub ageingOk : ℕ → Expense → Bool
@@ -87,8 +88,8 @@ overhaulOk o j = entryOk (o .overhaulCount) j (ageBefore o j) (o .overhaul j .ag
 -- the first of 1 to 4 for a sheet, else 0
 unfoldable pub headerNumber : List ℕ → ℕ
 headerNumber s =
-    1 unless eqb (length s) sheetLength else
-    2 unless markOk s && versionOk (sheetOf s .version) else
+    1 unless lengthOk (length s) else
+    2 unless markOk s && versionOk (length s) (sheetOf s .version) else
     3 unless horizonOk (sheetOf s .horizon) else
     4 unless rateOk (sheetOf s .rate) else
     0
@@ -97,7 +98,7 @@ headerNumber s =
 unfoldable pub fieldsNumber : ℕ → OptionRecord → ℕ
 fieldsNumber r o =
     5 unless livesOk (o .shortest) (o .longest) else
-    6 unless amountsOk (o .investment .amount) (o .maintenance .amount) (o .electricity .amount) else
+    6 unless amountsOk (o .investment .amount) (o .maintenance .amount) (o .electricity .amount) (o .removal .amount) else
     7 unless inflationsOk r o else
     8 unless ageingsOk r o else
     9 unless countOk (o .overhaulCount) else

@@ -18,13 +18,14 @@ fn lives_ok(t: Terms) -> bool
         | ((1 <= t.shortest) & (t.shortest <= t.longest) & (t.longest <= 120))
 }
 
-// 6: investment, maintenance and electricity at most 10^9
+// 6: investment, maintenance, electricity and removal at most 10^9
 fn amounts_ok(t: Terms) -> bool
-    ensures { λ b. ⌜ b ≡ amountsOk (t .investment .amount) (t .maintenance .amount) (t .electricity .amount) ⌝ }
+    ensures { λ b. ⌜ b ≡ amountsOk (t .investment .amount) (t .maintenance .amount) (t .electricity .amount) (t .removal .amount) ⌝ }
 {
     (t.investment.amount <= 1_000_000_000)
         & (t.maintenance.amount <= 1_000_000_000)
         & (t.electricity.amount <= 1_000_000_000)
+        & (t.removal.amount <= 1_000_000_000)
 }
 
 // 7: f is from −100,000 to r, tested on their factors
@@ -34,7 +35,7 @@ fn inflation_ok(discount: u64, grow: u64) -> bool
     (900_000 <= grow) & (grow <= discount)
 }
 
-// 7, of all four
+// 7, of all five
 fn inflations_ok(discount: u64, t: Terms) -> bool
     ensures { λ b. ⌜ ((r : ℕ) (o : OptionRecord) → discount ≡ 1_000_000 + r → t ≡ termsOf o → b ≡ inflationsOk r o) ⌝ }
 {
@@ -42,7 +43,8 @@ fn inflations_ok(discount: u64, t: Terms) -> bool
     let maintenance = inflation_ok(discount, t.maintenance.grow);
     let electricity = inflation_ok(discount, t.electricity.grow);
     let overhauls = inflation_ok(discount, t.overhauls.grow);
-    investment & maintenance & electricity & overhauls
+    let removal = inflation_ok(discount, t.removal.grow);
+    investment & maintenance & electricity & overhauls & removal
 }
 
 // 8: an ageing at most 300,000, and the product within the discount. A factor above the discount's fails for every ageing; it is tested

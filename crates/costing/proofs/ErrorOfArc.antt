@@ -4,15 +4,15 @@
 use Prim.Native.Nat.{ℕ, zero, suc, _+_, _*_, _≤_, _<_}
 use mathlib.Core.Path.{_≡_, refl, ap, sym, _∙_}
 use mathlib.Core.List.{List, [], _∷_, _++_}
-use mathlib.Core.Bool.{Bool, true, false}
+use mathlib.Core.Bool.{Bool, true, false, cond, _&&_, and-false, false≢true}
 use mathlib.Core.Logic.{⊎-elim}
 use native.Mathlib.Nat.{mul-le-mul-left, add-zero, add-suc, eq-or-lt-of-le, not-suc-le-zero}
 use native.Mathlib.Omega.{arith}
 use lib.Dec.{ltb, eqb}
-use borrow.Author.Tests.{ltb-true, eqb-true, eq-eqb, ne-eqb}
+use borrow.Author.Tests.{lt-ltb, le-ltb, ltb-true, eqb-true, eq-eqb, ne-eqb}
 use Rattle.base.specs.Lists.{Every, sumOf}
 use Rattle.base.proofs.TestLaws.{by-test}
-use Rattle.base.proofs.ListsLaws.{every-map, every-append}
+use Rattle.base.proofs.ListsLaws.{every-map, every-append, sumOf-append}
 use Rattle.sheet.specs.declared.Flow.{Flow}
 use Rattle.checking.specs.Fit.{FlowFits}
 use Rattle.steps.specs.Step.{above, below}
@@ -21,12 +21,12 @@ use Rattle.steps.specs.Exact.{_over_, common, Whole}
 use Rattle.steps.specs.Error.{NearBy, roundings, PaymentNear}
 use Rattle.steps.specs.Fit.{Sound}
 use Rattle.steps.proofs.ErrorOfPayment.{payment-error, exact-whole, total-error}
-use Rattle.costing.specs.Arc.{Arc, inYear, investment, maintenance, electricity, ageOf, overhaul, forEach, paidIf, overhaulsBelow, paid, payments, cost, exactCost}
+use Rattle.costing.specs.Arc.{Arc, inYear, investment, maintenance, electricity, ageOf, overhaul, forEach, paidIf, overhaulsBelow, paid, removal, closes, closing, payments, cost, exactCost}
 use Rattle.costing.specs.Error.{allowance, WithinAllowance}
 use Rattle.costing.specs.Fit.{KeptFits, ArcFits, Between}
 use Rattle.costing.specs.Walk.{atAge, overhaulsAt, added, walked}
 use Rattle.costing.specs.declared.Kept.{Kept}
-use Rattle.costing.proofs.SumLaws.{forEach-zero, forEach-suc, forEach-none, paidIf-true, paidIf-false, added-total, walked-zero, walked-suc, paid-zero, walked-paid}
+use Rattle.costing.proofs.SumLaws.{forEach-zero, forEach-suc, forEach-none, paidIf-true, paidIf-false, paidIf-cond, added-total, walked-zero, walked-suc, paid-zero, walked-paid}
 
 module _ (S : Payment → Type 0) where
   every-forEach : (n : ℕ) (f : ℕ → List Payment) → ((j : ℕ) → j < n → Every S (f j)) → Every S (forEach n f)
@@ -78,10 +78,18 @@ module _ (horizon : ℕ) (k : Kept) (ok : KeptFits k) where
             (flow (k .terms .electricity) (ok .terms .electricity) (k .since) (k .from) (suc n) (ok .since) h),
       )
 
+  closing-sound : (removed : Bool) (n : ℕ) → k .from + n ≤ horizon → Every (Sound horizon (k .discount)) (closing k removed n horizon)
+  unfolding closing removal
+  closing-sound removed n h =
+      every-paidIf _ (closes k removed n horizon) _
+      (λ on. once-sound horizon (k .discount) discount-positive _ _ _ (ok .terms .removal .grow .high) h)
+
 module _ (a : Arc) (ok : ArcFits a) where
   pub payments-sound : Every (Sound (a .horizon) (a .kept .discount)) (payments a)
   unfolding payments
-  payments-sound = paid-sound (a .horizon) (a .kept) (ok .kept) (a .years) (ok .inside)
+  payments-sound =
+      every-append _ (paid (a .kept) (a .years)) _ (paid-sound (a .horizon) (a .kept) (ok .kept) (a .years) (ok .inside))
+      (closing-sound (a .horizon) (a .kept) (ok .kept) (a .removed) (a .years) (ok .inside))
 
   -- so each payment of an arc after p plain steps and s in service is off by at most p + 2s roundings
   pub payments-error : Every (PaymentNear (a .kept .discount)) (payments a)
@@ -91,10 +99,13 @@ module _ (a : Arc) (ok : ArcFits a) where
   pub payments-whole : Every (Whole (a .horizon) (a .kept .discount)) (payments a)
   payments-whole = every-map _ _ (λ p s. exact-whole (a .horizon) (a .kept .discount) p (s .by)) (payments a) payments-sound
 
--- the allowance of one year
-allowance-suc : (y : ℕ) → allowance y + 10 * y + 8 ≤ allowance (suc y)
-unfolding allowance
-allowance-suc y = omega arith
+-- the allowance of what is paid up to year y without removals: rounded (5y² + 3y)/2 times at most
+paidAllowance : ℕ → ℕ
+paidAllowance y = 5 * (y * y) + 3 * y
+
+paidAllowance-suc : (y : ℕ) → paidAllowance y + 10 * y + 8 ≤ paidAllowance (suc y)
+unfolding paidAllowance
+paidAllowance-suc y = omega arith
 
 module _ (k : Kept) (ok : KeptFits k) where
   ageOf-rising : (i j : ℕ) → i < j → j < k .terms .overhauls .count → ageOf k i < ageOf k j
@@ -150,17 +161,49 @@ module _ (k : Kept) (ok : KeptFits k) where
       rw (added-total roundings) (omega (arith, overhaulsAt-roundings n, atAge-least n i (k .terms .overhauls .count) l e))
 
   -- by induction over the years
-  walked-roundings : (n : ℕ) → 2 * sumOf roundings (walked k (suc n)) + allowance (k .from) ≤ allowance (k .from + suc n)
+  walked-roundings : (n : ℕ) → 2 * sumOf roundings (walked k (suc n)) + paidAllowance (k .from) ≤ paidAllowance (k .from + suc n)
   walked-roundings zero =
       rw (walked-suc roundings, walked-zero roundings, add-suc (k .from) 0, add-zero (k .from))
-      (unfold investment once roundings in omega (arith, added-roundings 0, allowance-suc (k .from)))
+      (unfold investment once roundings in omega (arith, added-roundings 0, paidAllowance-suc (k .from)))
   walked-roundings (suc n) =
       rw (walked-suc roundings, add-suc (k .from) (suc n))
-      (omega (arith, walked-roundings n, added-roundings (suc n), allowance-suc (k .from + suc n)))
+      (omega (arith, walked-roundings n, added-roundings (suc n), paidAllowance-suc (k .from + suc n)))
 
-  paid-roundings : (n : ℕ) → 2 * sumOf roundings (paid k n) + allowance (k .from) ≤ allowance (k .from + n)
+  paid-roundings : (n : ℕ) → 2 * sumOf roundings (paid k n) + paidAllowance (k .from) ≤ paidAllowance (k .from + n)
   paid-roundings zero = rw (paid-zero roundings, add-zero (k .from)) (omega arith)
   paid-roundings (suc n) = rw (walked-paid roundings) (walked-roundings n)
+
+-- With a removal, if there is one, that is allowed: the square of a later year has room for it, t² + t + u ≤ u² for t < u.
+grows :
+    (T t n : ℕ) (removed : Bool) → t + suc n ≤ T → (removed ≡ true → t + suc n < T)
+    → paidAllowance (t + suc n) + 2 * cond removed (t + suc n) 0 + allowance T t ≤ allowance T (t + suc n) + paidAllowance t
+unfolding paidAllowance allowance
+grows T t n true inside early = rw (lt-ltb t T (omega arith), lt-ltb (t + suc n) T (early refl)) (omega arith)
+grows T t n false inside early =
+    ⊎-elim (λ (last : t + suc n ≡ T). rw (lt-ltb t T (omega arith), le-ltb (t + suc n) T (omega arith), ← last) (omega arith))
+    (λ (l : t + suc n < T). rw (lt-ltb t T (omega arith), lt-ltb (t + suc n) T l) (omega arith)) (eq-or-lt-of-le inside)
+
+and-last : (a b : Bool) → a && b ≡ true → b ≡ true
+and-last true b e = e
+and-last false b e = absurd (false≢true e)
+
+module _ (k : Kept) (ok : KeptFits k) (T : ℕ) (removed : Bool) where
+  closing-roundings : (n : ℕ) → sumOf roundings (closing k removed n T) ≡ cond (closes k removed n T) (k .from + n) 0
+  unfolding closing removal once roundings
+  closing-roundings n =
+      paidIf-cond roundings (closes k removed n T) (removal k (k .from + n)) ∙ ap (λ (u : ℕ). cond (closes k removed n T) u 0) (omega arith)
+
+  whole-roundings :
+      (n : ℕ) → k .from + n ≤ T
+      → 2 * sumOf roundings (paid k n ++ closing k removed n T) + allowance T (k .from) ≤ allowance T (k .from + n)
+  whole-roundings zero inside =
+      rw (sumOf-append roundings (paid k 0) (closing k removed 0 T), paid-zero roundings, closing-roundings 0, and-false removed, add-zero (k .from))
+      (omega arith)
+  whole-roundings (suc n) inside =
+      let early : closes k removed (suc n) T ≡ true → k .from + suc n < T =
+      λ on. ltb-true (k .from + suc n) T (and-last (removed && ltb 0 (suc n)) _ on) in
+      rw (sumOf-append roundings (paid k (suc n)) (closing k removed (suc n) T), closing-roundings (suc n))
+      (omega (arith, paid-roundings k ok (suc n), grows T (k .from) n (closes k removed (suc n) T) inside early))
 
 -- what lies between A and B and what lies between B and C add up to what lies between A and C
 pub between-add : {a b e f D A B C : ℕ} → Between a e D A B → Between b f D B C → Between (a + b) (e + f) D A C
@@ -172,12 +215,11 @@ between-near {D = D} w c h = omega (arith, mul-le-mul-left (above * D) h, mul-le
 pub arc-between :
     (a : Arc) → ArcFits a
     → Between (cost a) (exactCost a) (common (a .horizon) (a .kept .discount))
-    (allowance (a .kept .from)) (allowance (a .kept .from + a .years))
+    (allowance (a .horizon) (a .kept .from)) (allowance (a .horizon) (a .kept .from + a .years))
 unfolding cost exactCost payments
 arc-between a ok =
-    between-near (sumOf roundings (paid (a .kept) (a .years)))
-    (total-error (a .horizon) (a .kept .discount) _ (paid-sound (a .horizon) (a .kept) (ok .kept) (a .years) (ok .inside)))
-    (paid-roundings (a .kept) (ok .kept) (a .years))
+    between-near (sumOf roundings (payments a)) (total-error (a .horizon) (a .kept .discount) (payments a) (payments-sound a ok))
+    (whole-roundings (a .kept) (ok .kept) (a .horizon) (a .removed) (a .years) (ok .inside))
 
 pub arc-error : (a : Arc) → ArcFits a → WithinAllowance a (cost a)
 unfolding above below

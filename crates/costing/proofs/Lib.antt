@@ -1,5 +1,5 @@
 -- The laws of costing, in reading order; a file cites only files above it.
---     CaseLaws: document 01's cases 6 to 8, arcs of a sheet whose fields all differ, motors that age, and refusal 13, straight from the definitions
+--     CaseLaws: document 01's cases 6 to 8, arcs of a sheet whose fields all differ, motors that age, removals, and refusal 13, straight from the definitions
 --     SumLaws, SizeLaws, WalkLaws: sums over payments, how large they are, and the walk; the functions of an arc cite them
 --     ErrorOfArc: the error of an arc
 --     SheetArcLaws: an arc of a sheet

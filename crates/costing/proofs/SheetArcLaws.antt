@@ -1,23 +1,31 @@
 -- An arc of a sheet: since when its motors are in service (`since-kept`, `since-new`, `since-le`), what the code holds of it (`replace-from`,
--- `kept-made`, `kept-read`, `cost-paid`), which steps its flows take (`electricity-kept`, `electricity-new`, `maintenance-new`), and what a
+-- `kept-made`, `kept-read`, `cost-whole`), which steps its flows take (`electricity-kept`, `electricity-new`, `maintenance-new`), and what a
 -- sheet that passes the checks gives of it: room for its steps (`keptOf-fits`, `kept-fits`), what the laws of the error ask (`arc-fits`), and how
--- large its cost can be (`keptOf-room`, `cost-le`). Assumes nothing.
+-- large its cost can be (`keptOf-room`, `cost-le`). And an arc of a sheet of version 1 pays what it paid before there were removals, by any figure of
+-- its payments (`version-one`), in units too (`version-one-costs`). Assumes nothing.
 use Prim.Native.Nat.{ℕ, _+_, _-_, _*_, _≤_}
-use mathlib.Core.Path.{_≡_, refl, ap, sym, subst}
-use mathlib.Core.Bool.{true, false}
+use mathlib.Core.Path.{_≡_, refl, ap, sym, subst, _∙_}
+use mathlib.Core.Bool.{Bool, true, false}
+use mathlib.Core.List.{List}
+use native.Mathlib.Nat.{add-zero}
 use native.Mathlib.Omega.{arith}
 use Rattle.base.proofs.TestLaws.{by-test}
-use Rattle.sheet.specs.Sheet.{PlanningSheet, replace}
-use Rattle.sheet.specs.Parsed.{termsOf, parsed, noTerms}
+use Rattle.base.proofs.ListsLaws.{sumOf-append}
+use Rattle.base.specs.Lists.{sumOf}
+use Rattle.sheet.specs.Layout.{isLong}
+use Rattle.sheet.specs.Sheet.{PlanningSheet, replace, sheetOf}
+use Rattle.sheet.specs.Parsed.{flowOf, termsOf, parsed, noTerms}
 use Rattle.sheet.specs.declared.Sheet.{Sheet}
 use Rattle.sheet.specs.declared.Terms.{Terms}
-use Rattle.sheet.proofs.ParsedLaws.{horizon-read, discount-read, terms-read}
+use Rattle.sheet.proofs.ParsedLaws.{horizon-read, discount-read, terms-read, removal-none}
 use Rattle.checking.specs.Fit.{Fit}
-use Rattle.steps.specs.Payment.{Payment}
-use Rattle.costing.specs.Arc.{keepsMotors, sinceOf, keptOn, keptOf, keptFrom, arcOf, inYear, maintenance, electricity, paid, payments, worth, cost}
+use Rattle.steps.specs.Payment.{Payment, rounded, once}
+use Rattle.steps.proofs.RoomLaws.{once-free}
+use Rattle.costing.specs.Arc.{keepsMotors, paysRemoval, sinceOf, keptOn, keptOf, keptFrom, Arc, arcOf, inYear, maintenance, electricity, paid, payments, worth, wholeWorth, cost}
 use Rattle.costing.specs.Fit.{yearly, KeptFits, ArcFits}
 use Rattle.costing.specs.declared.Kept.{Kept}
-use Rattle.costing.proofs.SizeLaws.{paid-le}
+use Rattle.costing.proofs.SizeLaws.{whole-le}
+use Rattle.costing.proofs.SumLaws.{closing-free}
 
 -- the year since which motors are in service, by whether they are kept; it is not after the start
 pub since-kept : (option start : ℕ) → keepsMotors option ≡ true → sinceOf option start ≡ 0
@@ -48,12 +56,14 @@ keptOf-fits s fit option start known early =
       since = since-le option start;
     }
 
--- its cost is at most 11 payments a year
+-- its cost is at most 12 payments a year
 pub keptOf-room :
     (s : Sheet) → Fit s → (option start end : ℕ) → option ≤ 2 → start ≤ end → end ≤ s .horizon
-    → {k : Kept} {units : ℕ} → k ≡ keptOf s option start → units ≡ worth k (paid k (end - start)) → units ≤ (end - start) * yearly
-keptOf-room s fit option start end known forward inside same e =
-    rw (e, same) (paid-le (keptOf s option start) (keptOf-fits s fit option start known (omega arith)) (end - start) (omega arith))
+    → (removed : Bool) {k : Kept} {units : ℕ} → k ≡ keptOf s option start → units ≡ wholeWorth k removed (end - start) (s .horizon)
+    → units ≤ (end - start) * yearly
+keptOf-room s fit option start end known forward inside removed same e =
+    rw (e, same)
+    (whole-le (keptOf s option start) (keptOf-fits s fit option start known (omega arith)) removed (end - start) (s .horizon) (omega arith))
 
 module _ (p : PlanningSheet) (option start end : ℕ) where
   pub kept-made :
@@ -84,9 +94,13 @@ module _ (p : PlanningSheet) (option start end : ℕ) where
     maintenance-new = (refl, omega arith)
 
   -- the cost of the arc, of the option that is kept
-  pub cost-paid : (k : Kept) → k ≡ arcOf p option start end .kept → worth k (paid k (end - start)) ≡ cost (arcOf p option start end)
+  pub cost-whole :
+      {k : Kept} {removed : Bool} {horizon : ℕ} → k ≡ arcOf p option start end .kept → removed ≡ paysRemoval option → horizon ≡ p .horizon
+      → wholeWorth k removed (end - start) horizon ≡ cost (arcOf p option start end)
   unfolding cost payments arcOf
-  cost-paid k e = ap (λ (a : Kept). worth a (paid a (end - start))) e
+  cost-whole e r T =
+      (λ i. wholeWorth (e i) (r i) (end - start) (T i))
+      ∙ sym (sumOf-append (rounded (1_000_000 + p .rate)) (paid (arcOf p option start end .kept) (end - start)) _)
 
   -- of a sheet that passes the checks
   module _ (fit : Fit (parsed p)) where
@@ -101,5 +115,21 @@ module _ (p : PlanningSheet) (option start end : ℕ) where
 
     pub cost-le : option ≤ 2 → start ≤ end → end ≤ p .horizon → cost (arcOf p option start end) ≤ (end - start) * yearly
     cost-le known forward inside =
-        keptOf-room (parsed p) fit option start end known forward (omega (arith, horizon-read (parsed p) p refl)) refl
-        (sym (cost-paid (keptOf (parsed p) option start) (kept-read (parsed p) refl known)))
+        keptOf-room (parsed p) fit option start end known forward (omega (arith, horizon-read (parsed p) p refl)) (paysRemoval option) refl
+        (sym (cost-whole (kept-read (parsed p) refl known) refl (horizon-read (parsed p) p refl)))
+
+-- of a sheet of version 1, which is read with removal 0
+module _ (s : List ℕ) (short : isLong s ≡ false) (option start end : ℕ) where
+  abbrev a : Arc
+  a = arcOf (sheetOf s) option start end
+
+  pub version-one :
+      (φ : Payment → ℕ) → ((grow u : ℕ) → φ (once 0 grow u) ≡ 0) → sumOf φ (payments a) ≡ sumOf φ (paid (a .kept) (a .years))
+  unfolding payments arcOf termsOf flowOf
+  version-one φ nothing =
+      let none = closing-free φ nothing (a .kept) (removal-none s option short) (a .removed) (a .years) (a .horizon) in
+      sumOf-append φ (paid (a .kept) (a .years)) _ ∙ ap (λ (more : ℕ). sumOf φ (paid (a .kept) (a .years)) + more) none ∙ add-zero _
+
+  pub version-one-costs : cost a ≡ worth (a .kept) (paid (a .kept) (a .years))
+  unfolding cost arcOf
+  version-one-costs = version-one (rounded (a .kept .discount)) (once-free (a .kept .discount) (omega arith))

@@ -2,15 +2,17 @@
 --     inYear-le, inYear-fits, flow-units-le      a year of a flow, in units
 --     paidIf-le, forEach-le      sums of any figure that is bounded
 --     due-most, walked-most, paid-most      a figure that is at most `largestPayment` of each payment: 11 payments a year at most
+--     closing-most, whole-most      with removal 12 payments a year at most
 --     units-small      units are such a figure
---     overhauls-le, walked-le, paid-le      so these are bounds on what an arc costs
+--     overhauls-le, walked-le, paid-le, removal-le, whole-le      so these are bounds on what an arc costs
 -- Assumes nothing.
 use Prim.Native.Nat.{ℕ, zero, suc, _+_, _-_, _*_, _≤_, _<_}
+use mathlib.Core.Path.{_≡_}
 use mathlib.Core.List.{List}
-use mathlib.Core.Bool.{Bool, true, false}
+use mathlib.Core.Bool.{Bool, true, false, _&&_, and-false}
 use native.Mathlib.Omega.{arith}
 use native.Mathlib.Nat.{le-trans}
-use lib.Dec.{eqb}
+use lib.Dec.{ltb, eqb}
 use lib.ListN.{getD}
 use Rattle.base.specs.Lists.{sumOf}
 use Rattle.sheet.specs.declared.Flow.{Flow}
@@ -19,7 +21,7 @@ use Rattle.steps.specs.Step.{plain, repeated}
 use Rattle.steps.specs.Payment.{Payment, rounded}
 use Rattle.steps.specs.Fit.{largestPayment, ServiceFits}
 use Rattle.steps.proofs.RoomLaws.{services-le, plains-le, once-le}
-use Rattle.costing.specs.Arc.{inYear, investment, maintenance, electricity, ageOf, overhaul, forEach, paidIf, paid, worth}
+use Rattle.costing.specs.Arc.{inYear, investment, maintenance, electricity, ageOf, overhaul, forEach, paidIf, paid, removal, closes, closing, worth, wholeWorth}
 use Rattle.costing.specs.Fit.{yearly, KeptFits, Small}
 use Rattle.costing.specs.Walk.{atAge, overhaulsAt, added, walked}
 use Rattle.costing.specs.declared.Kept.{Kept}
@@ -85,9 +87,25 @@ module _ (φ : Payment → ℕ) (a : Kept) (h : KeptFits a) (m : ℕ) (small : S
   walked-most (suc n) l = rw (Sum.walked-suc φ a n) (omega (arith, walked-most n (omega arith), added-most n (omega arith)))
 
 -- of an arc at most 11 payments a year
-pub paid-most : (φ : Payment → ℕ) (a : Kept) → KeptFits a → (n : ℕ) → Small φ a n → sumOf φ (paid a n) ≤ n * yearly
+pub paid-most : (φ : Payment → ℕ) (a : Kept) → KeptFits a → (n : ℕ) → Small φ a n → sumOf φ (paid a n) ≤ n * (11 * largestPayment)
 paid-most φ a h zero small = rw (Sum.paid-zero φ a) (omega arith)
 paid-most φ a h (suc n) small = rw (Sum.walked-paid φ a n) (omega (arith, walked-most φ a h (suc n) small (suc n) (omega arith)))
+
+-- what it pays when it ends: one payment at most, and nothing at length 0
+pub closing-most : (φ : Payment → ℕ) (a : Kept) (removed : Bool) (n T : ℕ) → Small φ a n → sumOf φ (closing a removed n T) ≤ largestPayment
+unfolding closing
+closing-most φ a removed n T small = le-trans (paidIf-le φ (closes a removed n T) (removal a (a .from + n))) (small .removed)
+
+closing-zero : (φ : Payment → ℕ) (a : Kept) (removed : Bool) (T : ℕ) → sumOf φ (closing a removed 0 T) ≡ 0
+unfolding closing
+closing-zero φ a removed T = rw (and-false removed) (Sum.paidIf-false φ _)
+
+-- with it at most 12 payments a year
+pub whole-most :
+    (φ : Payment → ℕ) (a : Kept) → KeptFits a → (removed : Bool) (n T : ℕ) → Small φ a n
+    → sumOf φ (paid a n) + sumOf φ (closing a removed n T) ≤ n * yearly
+whole-most φ a h removed zero T small = rw (Sum.paid-zero φ a, closing-zero φ a removed T) (omega arith)
+whole-most φ a h removed (suc n) T small = omega (arith, paid-most φ a h (suc n) small, closing-most φ a removed (suc n) T small)
 
 -- units are such a figure
 module _ (a : Kept) (h : KeptFits a) where
@@ -102,6 +120,12 @@ module _ (a : Kept) (h : KeptFits a) where
       let amount = h .terms .overhauls .amount j l in
       omega arith
 
+  pub removal-le : (u : ℕ) → rounded (a .discount) (removal a u) ≤ largestPayment
+  unfolding removal
+  removal-le u =
+      let w = a .terms .removal in
+      omega (arith, once-le (a .discount) (w .amount) (w .grow) u positive (h .terms .removal .grow .high), h .terms .removal .amount)
+
   pub units-small : (n : ℕ) → n ≤ 300 → Small (rounded (a .discount)) a n
   unfolding investment maintenance electricity
   units-small n few =
@@ -112,6 +136,7 @@ module _ (a : Kept) (h : KeptFits a) where
         overhauled = overhaul-le;
         maintained = λ k l. flow-units-le (a .discount) (a .terms .maintenance) (a .from) (a .from) (suc k) positive (t .maintenance) (h .from) (omega arith);
         powered = λ k l. flow-units-le (a .discount) (a .terms .electricity) (a .since) (a .from) (suc k) positive (t .electricity) (h .from) (omega arith);
+        removed = removal-le (a .from + n);
       }
 
   -- what the first k overhauls cost in year n
@@ -121,5 +146,8 @@ module _ (a : Kept) (h : KeptFits a) where
   pub walked-le : (n : ℕ) → n ≤ 300 → worth a (walked a n) ≤ (10 * n + 1) * largestPayment
   walked-le n few = walked-most (rounded (a .discount)) a h n (units-small n few) n (omega arith)
 
-  pub paid-le : (n : ℕ) → n ≤ 300 → worth a (paid a n) ≤ n * yearly
+  pub paid-le : (n : ℕ) → n ≤ 300 → worth a (paid a n) ≤ n * (11 * largestPayment)
   paid-le n few = paid-most (rounded (a .discount)) a h n (units-small n few)
+
+  pub whole-le : (removed : Bool) (n T : ℕ) → n ≤ 300 → wholeWorth a removed n T ≤ n * yearly
+  whole-le removed n T few = whole-most (rounded (a .discount)) a h removed n T (units-small n few)

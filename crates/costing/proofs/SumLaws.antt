@@ -1,8 +1,9 @@
--- Sums of a figure over payments, for every figure: an arc paid year by year pays the same (`walked-paid`). Assumes nothing.
+-- Sums of a figure over payments, for every figure: an arc paid year by year pays the same (`walked-paid`), and what it pays when it ends
+-- (`closing-paid`, `closing-none`, `closing-free`). Assumes nothing.
 use Prim.Native.Nat.{ℕ, zero, suc, _+_, _<_}
-use mathlib.Core.Path.{_≡_, refl, sym, _∙_}
+use mathlib.Core.Path.{_≡_, refl, ap, sym, _∙_}
 use mathlib.Core.List.{List, [], _∷_, _++_}
-use mathlib.Core.Bool.{true, false}
+use mathlib.Core.Bool.{Bool, true, false, cond}
 use native.Mathlib.Nat.{add-zero}
 use native.Mathlib.Omega.{arith}
 use lib.Dec.{ltb, eqb}
@@ -10,8 +11,8 @@ use borrow.Author.Tests.{lt-ltb, le-ltb, ne-eqb, ltb-true, ltb-false, eqb-true, 
 use Rattle.base.specs.Lists.{sumOf}
 use Rattle.base.proofs.TestLaws.{by-test}
 use Rattle.base.proofs.ListsLaws.{sumOf-append, sumOf-cons, sumOf-one, sumOf-two}
-use Rattle.steps.specs.Payment.{Payment}
-use Rattle.costing.specs.Arc.{investment, maintenance, electricity, ageOf, overhaul, forEach, paidIf, overhaulsBelow, paid}
+use Rattle.steps.specs.Payment.{Payment, once}
+use Rattle.costing.specs.Arc.{investment, maintenance, electricity, ageOf, overhaul, forEach, paidIf, overhaulsBelow, paid, removal, closes, closing}
 use Rattle.costing.specs.Walk.{overhaulsAt, added, walked}
 use Rattle.costing.specs.declared.Kept.{Kept}
 
@@ -43,6 +44,31 @@ module _ (φ : Payment → ℕ) where
   pub paidIf-false : (p : Payment) → sumOf φ (paidIf false p) ≡ 0
   unfolding paidIf sumOf
   paidIf-false p = refl
+
+  pub paidIf-cond : (b : Bool) (p : Payment) → sumOf φ (paidIf b p) ≡ cond b (φ p) 0
+  paidIf-cond true p = paidIf-true p
+  paidIf-cond false p = paidIf-false p
+
+  -- a removal that is paid, and none
+  pub closing-paid :
+      (a : Kept) (removed : Bool) (n T : ℕ) → closes a removed n T ≡ true → sumOf φ (closing a removed n T) ≡ φ (removal a (a .from + n))
+  unfolding closing
+  closing-paid a removed n T on = rw on (paidIf-true (removal a (a .from + n)))
+
+  pub closing-none : (a : Kept) (removed : Bool) (n T : ℕ) → closes a removed n T ≡ false → sumOf φ (closing a removed n T) ≡ 0
+  unfolding closing
+  closing-none a removed n T off = rw off (paidIf-false (removal a (a .from + n)))
+
+  -- a removal of 0 adds nothing, if the figure is 0 of every payment of amount 0: a sheet of version 1 has no other
+  pub closing-free :
+      ((grow u : ℕ) → φ (once 0 grow u) ≡ 0)
+      → (a : Kept) → a .terms .removal .amount ≡ 0 → (removed : Bool) (n T : ℕ) → sumOf φ (closing a removed n T) ≡ 0
+  closing-free nothing a none removed n T =
+      by-test (closes a removed n T)
+      (λ on.
+      closing-paid a removed n T on
+      ∙ (unfold removal in ap (λ (amount : ℕ). φ (once amount (a .terms .removal .grow) (a .from + n))) none ∙ nothing _ (a .from + n)))
+      (λ off. closing-none a removed n T off)
 
   -- an age below n + 1 is below n or is n
   paidIf-next : (a n : ℕ) (p : Payment) → sumOf φ (paidIf (ltb a (suc n)) p) ≡ sumOf φ (paidIf (ltb a n) p) + sumOf φ (paidIf (eqb a n) p)

@@ -1,11 +1,11 @@
--- What an arc pays and what it costs: document 01, 'What an arc costs'. Definitions only.
+-- What an arc pays and what it costs: document 01, 'What an arc costs', and document 02, requests 4 and 6. Definitions only.
 use Prim.Native.Nat.{ℕ, zero, suc, _+_, _-_}
 use mathlib.Core.List.{List, [], _∷_, _++_}
-use mathlib.Core.Bool.{Bool, cond}
+use mathlib.Core.Bool.{Bool, cond, _&&_, _||_}
 use lib.Dec.{eqb, ltb}
 use lib.ListN.{getD}
 use Rattle.base.specs.Lists.{sumOf}
-use Rattle.sheet.specs.Sheet.{PlanningSheet, renovate}
+use Rattle.sheet.specs.Sheet.{PlanningSheet, renovate, replace}
 use Rattle.sheet.specs.Parsed.{termsOf, noTerms}
 use Rattle.sheet.specs.declared.Flow.{Flow}
 use Rattle.sheet.specs.declared.Sheet.{Sheet}
@@ -15,15 +15,21 @@ use Rattle.steps.specs.Exact.{exact}
 use Rattle.costing.specs.declared.Kept.{Kept}
 
 -- An arc is an option kept from year t to year t + n. `kept` has the option's terms, the discount factor, the year since which its motors are
--- in service, and t (all that is known of an arc before its end), `years` is n, and `horizon` is T.
+-- in service, and t (all that is known of an arc before its end), `years` is n, `horizon` is T, and `removed` says whether its option pays
+-- removal.
 pub record Arc : Type 0 where
   pub kept : Kept
   pub years : ℕ
   pub horizon : ℕ
+  pub removed : Bool
 
 -- Renovating renews the building, while the motors go on ageing (document 02, request 4): every other option has new ones.
 abbrev pub keepsMotors : (option : ℕ) → Bool
 keepsMotors option = eqb option renovate
+
+-- A renovation or replacement pays removal, maintaining none (document 02, request 6).
+abbrev pub paysRemoval : (option : ℕ) → Bool
+paysRemoval option = eqb option renovate || eqb option replace
 
 -- the year since which the motors of an option that starts in a year are in service: that year, or year 0 if they are kept
 unfoldable pub sinceOf : (option start : ℕ) → ℕ
@@ -47,6 +53,7 @@ arcOf p option start end =
       kept = keptOn (termsOf (p .option option)) (1_000_000 + p .rate) (sinceOf option start) start;
       years = end - start;
       horizon = p .horizon;
+      removed = paysRemoval option;
     }
 
 -- What a flow, an amount paid each year with the factors of its rates, pays in year k of an arc from year t, if it is in service since year
@@ -96,12 +103,28 @@ paid a (suc n) =
     ++ forEach (suc n) (λ k. maintenance a (suc k) ∷ [])
     ++ forEach (suc n) (λ k. electricity a (suc k) ∷ [])
 
+-- removal paid in year u: after u plain steps
+unfoldable pub removal : Kept → (u : ℕ) → Payment
+removal a u = once (a .terms .removal .amount) (a .terms .removal .grow) u
+
+-- An arc of positive length that ends before T pays removal in its end year, if its option pays one.
+abbrev pub closes : Kept → (removed : Bool) (years horizon : ℕ) → Bool
+closes a removed years horizon = removed && ltb 0 years && ltb (a .from + years) horizon
+
+unfoldable pub closing : Kept → (removed : Bool) (years horizon : ℕ) → List Payment
+closing a removed years horizon = paidIf (closes a removed years horizon) (removal a (a .from + years))
+
+-- all that an arc pays
 unfoldable pub payments : Arc → List Payment
-payments a = paid (a .kept) (a .years)
+payments a = paid (a .kept) (a .years) ++ closing (a .kept) (a .removed) (a .years) (a .horizon)
 
 -- what payments of an option cost in units
 abbrev pub worth : Kept → List Payment → ℕ
 worth a ps = sumOf (rounded (a .discount)) ps
+
+-- what an arc of an option that is kept costs in units, removal included
+abbrev pub wholeWorth : Kept → (removed : Bool) (years horizon : ℕ) → ℕ
+wholeWorth a removed years horizon = worth a (paid a years) + worth a (closing a removed years horizon)
 
 -- an arc's cost in units, and its exact value over the common denominator: sums over the same payments
 unfoldable pub cost : Arc → ℕ

@@ -1,10 +1,10 @@
--- The bytes of the sheets of document 01's cases 6 to 12, of sheets whose motors age, of a sheet whose fields all differ, and of sheets with nothing
--- to pay. Definitions only.
+-- The bytes of the sheets of document 01's cases 6 to 12, of sheets whose motors age, of sheets whose fields all differ, of sheets with removals, and
+-- of sheets with nothing to pay. Definitions only.
 use Prim.Native.Nat.{ℕ, _-_, _*_}
 use mathlib.Core.List.{List, [], _∷_, _++_}
 use lib.ListN.{replicate}
 use lib.Seq.{sets}
-use Rattle.sheet.specs.CaseBytes.{bytes16, minus, headerBytes, recordBytes}
+use Rattle.sheet.specs.CaseBytes.{bytes16, minus, headerBytes, longHeaderBytes, recordBytes, removalBytes}
 use Rattle.checking.specs.CaseSheets.{recordAt}
 
 -- no overhaul, and one
@@ -56,20 +56,57 @@ oldMotorsSheet =
     ++ recordBytes 1 1 (0 ∷ 0 ∷ 0 ∷ 0 ∷ 0 ∷ 1 ∷ 0 ∷ 20_000 ∷ 0 ∷ []) noOverhaul
     ++ recordBytes 1 1 (0 ∷ 0 ∷ 0 ∷ 0 ∷ 0 ∷ 1 ∷ 0 ∷ 30_000 ∷ 0 ∷ []) noOverhaul
 
--- a sheet with T = 9 and r 50,000 that offers all options, each with two overhauls: no field is 0, no two fields of a record are equal, and no two
--- rates, amounts or lives of the sheet
-abbrev pub distinctSheet : List ℕ
-distinctSheet =
-    headerBytes 9 50_000
-    ++ recordBytes 4 8 (1_101 ∷ 11_000 ∷ 1_203 ∷ 12_000 ∷ 13_000 ∷ 1_307 ∷ 14_000 ∷ 15_000 ∷ 16_000 ∷ []) ((1, 1_409) ∷ (3, 1_511) ∷ [])
-    ++ recordBytes 5 7
+-- the records of a sheet that offers all options, each with two overhauls: no field is 0, no two fields of a record are equal, and no two rates, amounts
+-- or lives of the sheet
+abbrev pub distinctMaintain : List ℕ
+distinctMaintain =
+    recordBytes 4 8 (1_101 ∷ 11_000 ∷ 1_203 ∷ 12_000 ∷ 13_000 ∷ 1_307 ∷ 14_000 ∷ 15_000 ∷ 16_000 ∷ []) ((1, 1_409) ∷ (3, 1_511) ∷ [])
+
+abbrev pub distinctRenovate : List ℕ
+distinctRenovate =
+    recordBytes 5 7
     (2_101 ∷ minus 21_000 ∷ 2_203 ∷ minus 22_000 ∷ 23_000 ∷ 2_307 ∷ minus 24_000 ∷ 25_000 ∷ minus 26_000 ∷ [])
     ((3, 2_409) ∷ (4, 2_511) ∷ [])
-    ++ recordBytes 3 6 (3_101 ∷ 31_000 ∷ 3_203 ∷ minus 32_000 ∷ 33_000 ∷ 3_307 ∷ 4_000 ∷ 35_000 ∷ 36_000 ∷ []) ((1, 3_409) ∷ (4, 3_511) ∷ [])
+
+abbrev pub distinctReplace : List ℕ
+distinctReplace =
+    recordBytes 3 6 (3_101 ∷ 31_000 ∷ 3_203 ∷ minus 32_000 ∷ 33_000 ∷ 3_307 ∷ 4_000 ∷ 35_000 ∷ 36_000 ∷ []) ((1, 3_409) ∷ (4, 3_511) ∷ [])
+
+-- that sheet with T = 9 and r 50,000, and the longer one, whose removals and their rates differ from all of these too
+abbrev pub distinctSheet : List ℕ
+distinctSheet = headerBytes 9 50_000 ++ distinctMaintain ++ distinctRenovate ++ distinctReplace
+
+abbrev pub longDistinct : List ℕ
+longDistinct =
+    longHeaderBytes 9 50_000
+    ++ distinctMaintain
+    ++ removalBytes 1_603 17_000
+    ++ distinctRenovate
+    ++ removalBytes 2_603 (minus 27_000)
+    ++ distinctReplace
+    ++ removalBytes 3_603 37_000
 
 -- the same, option k not offered
 abbrev pub without : (k : ℕ) → List ℕ
 without k = sets distinctSheet (recordAt k) (bytes16 0 ++ bytes16 0)
+
+-- the longer sheet of replace alone, r 0, with all f and g 0 and no electricity, and with a removal
+abbrev pub longReplaceSheet : (horizon shortest longest investment maintenance : ℕ) (overhauls : List (ℕ × ℕ)) (removal : ℕ) → List ℕ
+longReplaceSheet horizon shortest longest investment maintenance overhauls removal =
+    longHeaderBytes horizon 0
+    ++ replicate 194 0
+    ++ recordBytes shortest longest (investment ∷ 0 ∷ maintenance ∷ 0 ∷ 0 ∷ 0 ∷ 0 ∷ 0 ∷ 0 ∷ []) overhauls
+    ++ removalBytes removal 0
+
+-- case 12's sheet as version 2, with removal 3
+abbrev pub longSheet12 : List ℕ
+longSheet12 = longReplaceSheet 4 1 3 10 1 (oneOverhaul 2 15) 3
+
+-- version 2, T = 4, r 40,000, all lives 1 to 2, nothing to pay but removals: 5 of maintain, 1 with f 10,000 of renovate, 2 with f −10,000 of replace
+abbrev pub removalSheet : List ℕ
+removalSheet =
+    let free : List ℕ = recordBytes 1 2 (replicate 9 0) noOverhaul in
+    longHeaderBytes 4 40_000 ++ free ++ removalBytes 5 0 ++ free ++ removalBytes 1 10_000 ++ free ++ removalBytes 2 (minus 10_000)
 
 -- the bytes of a sheet with T = 3, r 0 and nothing to pay, by the lives of maintain, renovate and replace
 abbrev pub freeSheet : (shortest0 longest0 shortest1 longest1 shortest2 longest2 : ℕ) → List ℕ

@@ -1,6 +1,6 @@
 -- Arcs costed, a list of what the rules give beside what it should be: document 01's cases 6 to 8, worked out again as request 1
--- asks, an arc of each option of a sheet whose fields all differ, arcs with motors that age, and each reason of refusal 13. `CaseLaws.antt`
--- evaluates them. Definitions only.
+-- asks, an arc of each option of a sheet whose fields all differ, arcs with motors that age, arcs with removals, and each reason of refusal 13.
+-- `CaseLaws.antt` evaluates them. Definitions only.
 use Prim.Native.Nat.{ℕ}
 use mathlib.Core.List.{List, [], _∷_}
 use lib.Seq.{sets}
@@ -8,10 +8,10 @@ use Rattle.base.specs.Answer.{accepted, refused}
 use Rattle.base.specs.Cases.{Case}
 use Rattle.base.specs.declared.Answer.{Answer}
 use Rattle.sheet.specs.CaseBytes.{bytes32}
-use Rattle.sheet.specs.Sheet.{renovate, replace}
+use Rattle.sheet.specs.Sheet.{maintain, renovate, replace}
 use Rattle.checking.specs.CaseSheets.{rateAt}
 use Rattle.costing.specs.Costing.{costed}
-use Rattle.costing.specs.CaseSheets.{noOverhaul, oneOverhaul, arcSheet, motorSheet, distinctSheet, without}
+use Rattle.costing.specs.CaseSheets.{noOverhaul, oneOverhaul, arcSheet, motorSheet, oldMotorsSheet, distinctSheet, longDistinct, without, longSheet12, removalSheet}
 
 -- what costing answers for an option of a sheet, from a start to an end
 abbrev pub costCase : (sheet : List ℕ) (option start end : ℕ) → Answer → Case
@@ -45,6 +45,30 @@ casesOfMotors =
     ∷ costCase (motorSheet renovate 1) renovate 1 2 (accepted 19_053)
     -- a replacement has new motors
     ∷ costCase (motorSheet replace 0) replace 1 2 (accepted 9_432)
+    ∷ []
+
+-- request 6: a renovation or replacement of positive length that ends before T pays removal in its end year
+abbrev pub casesOfRemoval : List Case
+casesOfRemoval =
+    -- 120,000 and 30,000; an arc that ends at T pays none; 280,000 and 30,000
+    costCase longSheet12 replace 0 2 (accepted 150_000)
+    ∷ costCase longSheet12 replace 2 4 (accepted 120_000)
+    ∷ costCase longSheet12 replace 0 3 (accepted 310_000)
+    -- maintaining pays none; a renovation pays its own, after two and after three plain steps; none at T, none at length 0
+    ∷ costCase removalSheet maintain 0 1 (accepted 0)
+    ∷ costCase removalSheet renovate 1 2 (accepted 9_432)
+    ∷ costCase removalSheet renovate 1 3 (accepted 9_160)
+    ∷ costCase removalSheet renovate 2 4 (accepted 0)
+    ∷ costCase removalSheet renovate 1 1 (accepted 0)
+    -- a replacement pays its own
+    ∷ costCase removalSheet replace 1 3 (accepted 17_253)
+    ∷ costCase removalSheet replace 2 4 (accepted 0)
+    -- beside all that the same arcs of the sheet without removals pay, which `casesOfArcs` has
+    ∷ costCase longDistinct maintain 0 5 (accepted 155_914_852)
+    ∷ costCase longDistinct renovate 2 8 (accepted 268_568_789)
+    ∷ costCase longDistinct replace 3 8 (accepted 375_008_284)
+    -- a sheet of version 1 has none, though its next record begins with other bytes than 0
+    ∷ costCase oldMotorsSheet renovate 0 1 (accepted 9_808)
     ∷ []
 
 -- refusal 13, each reason beside an arc that does not have it

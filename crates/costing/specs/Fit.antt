@@ -8,12 +8,12 @@ use Rattle.division.specs.declared.Divisor.{Divisor}
 use Rattle.steps.specs.Step.{above, below}
 use Rattle.steps.specs.Payment.{Payment}
 use Rattle.steps.specs.Fit.{largestPayment, Divides}
-use Rattle.costing.specs.Arc.{Arc, investment, maintenance, electricity, overhaul}
+use Rattle.costing.specs.Arc.{Arc, investment, maintenance, electricity, overhaul, removal}
 use Rattle.costing.specs.declared.Kept.{Kept}
 
--- the most that a year of an arc can cost: 11 payments
+-- the most that a year of an arc can cost: 12 payments, one of them removal
 abbrev pub yearly : ℕ
-yearly = 11 * largestPayment
+yearly = 12 * largestPayment
 
 -- a flow of a sheet that passes the checks, with the divisor of its discount factor at hand
 pub record FlowSteps (d : Divisor) (w : Flow) : Type 0 where
@@ -36,6 +36,7 @@ pub record Small (φ : Payment → ℕ) (a : Kept) (n : ℕ) : Type 0 where
   pub overhauled : (j : ℕ) → j < a .terms .overhauls .count → φ (overhaul a j) ≤ largestPayment
   pub maintained : (k : ℕ) → k < n → φ (maintenance a (suc k)) ≤ largestPayment
   pub powered : (k : ℕ) → k < n → φ (electricity a (suc k)) ≤ largestPayment
+  pub removed : φ (removal a (a .from + n)) ≤ largestPayment
 
 -- an option whose steps the code can take: it fits, and the divisor of its discount factor is at hand
 pub record Steppable (a : Kept) (d : Divisor) : Type 0 where

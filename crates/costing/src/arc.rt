@@ -1,4 +1,4 @@
-// An arc extended year by year: document 01, 'What an arc costs'.
+// An arc extended year by year, and closed: document 01, 'What an arc costs', and document 02, requests 4 and 6.
 
 ghost use mathlib.Core.Path.{_≡_};
 ghost use Prim.Native.Nat.{_+_, _*_, _<_, _≤_};
@@ -7,7 +7,7 @@ ghost use Rattle.base.specs.Lists.{sumOf};
 ghost use Rattle.division.specs.Division.{DivisorReady};
 ghost use Rattle.steps.specs.Payment.{rounded, once};
 ghost use Rattle.steps.specs.Fit.{PlainFits};
-ghost use Rattle.costing.specs.Arc.{inYear, paidIf, paid, worth};
+ghost use Rattle.costing.specs.Arc.{inYear, paidIf, paid, closes, closing, worth, wholeWorth};
 ghost use Rattle.costing.specs.Fit.{FlowSteps, Steppable};
 ghost use Rattle.costing.specs.Walk.{overhaulsAt, walkAt};
 use crate::Kept;
@@ -73,8 +73,8 @@ impl Kept {
         }
     }
 
-    // The cost of an arc of that many years.
-    pub fn cost(self, discount: Divisor, years: u64) -> Units
+    // What an arc of that many years pays, but for its removal.
+    fn paid(self, discount: Divisor, years: u64) -> Units
         requires { ⌜ Steppable self discount × (years ≤ 300) ⌝ }
         ensures { λ r. ⌜ r .0 ≡ worth self (paid self years) ⌝ }
     {
@@ -86,6 +86,41 @@ impl Kept {
             walk = walk.year(self, discount, self.overhauls_at(discount, n));
         }
         walk.cost
+    }
+
+    // Whether an arc of that many years pays removal when it ends, if its option pays one at all.
+    pub fn closes(self, removed: bool, years: u64, horizon: u64) -> bool
+        requires { ⌜ (self .from ≤ 300) × (years ≤ 300) ⌝ }
+        ensures { λ b. ⌜ b ≡ closes self removed years horizon ⌝ }
+    {
+        removed & (0 < years) & (self.from + years < horizon)
+    }
+
+    // What such an arc pays when it ends. A removal of 0 takes no steps.
+    fn closing(self, discount: Divisor, removed: bool, years: u64, horizon: u64) -> Units
+        requires { ⌜ Steppable self discount × (years ≤ 300) ⌝ }
+        ensures { λ r. ⌜ r .0 ≡ worth self (closing self removed years horizon) ⌝ }
+    {
+        let terms = self.terms;
+        let removal = terms.removal;
+        if removal.amount == 0 {
+            return Units(0);
+        }
+        if self.closes(removed, years, horizon) {
+            return paid_once(removal.amount, removal.grow, discount, self.from + years);
+        }
+        Units(0)
+    }
+
+    // The cost of such an arc.
+    pub fn cost(self, discount: Divisor, removed: bool, years: u64, horizon: u64) -> Units
+        requires { ⌜ Steppable self discount × (years ≤ 300) ⌝ }
+        ensures { λ r. ⌜ r .0 ≡ wholeWorth self removed years horizon ⌝ }
+    {
+        let paid = self.paid(discount, years);
+        let closing = self.closing(discount, removed, years, horizon);
+        let sum = paid.0 + closing.0;
+        Units(sum)
     }
 }
 

@@ -1,5 +1,5 @@
-// What an arc costs: document 01, 'What an arc costs'.
-// The public call is `cost`. The structs with their methods, `keeps_motors`, `kept_of`, `arc_cost`, `arc::running`
+// What an arc costs: document 01, 'What an arc costs', and document 02, requests 4 and 6.
+// The public call is `cost`. The structs with their methods, `keeps_motors`, `pays_removal`, `kept_of`, `arc_cost`, `arc::running`
 // and `offer::offered` serve the crates above.
 
 ghost use mathlib.Core.Path.{_≡_};
@@ -9,7 +9,7 @@ ghost use Rattle.sheet.specs.Sheet.{PlanningSheet, sheetOf};
 ghost use Rattle.sheet.specs.Parsed.{parsed};
 ghost use Rattle.checking.specs.Passes.{Passes};
 ghost use Rattle.checking.specs.Fit.{Fit};
-ghost use Rattle.costing.specs.Arc.{keepsMotors, sinceOf, keptOn, keptOf, keptFrom, arcOf, cost};
+ghost use Rattle.costing.specs.Arc.{keepsMotors, paysRemoval, sinceOf, keptOn, keptOf, keptFrom, arcOf, cost};
 ghost use Rattle.costing.specs.Offered.{Offered};
 ghost use Rattle.costing.specs.Costing.{costed};
 ghost use Rattle.costing.specs.Error.{WithinAllowance};
@@ -48,6 +48,13 @@ pub fn keeps_motors(option: u64) -> bool
     ensures { λ b. ⌜ b ≡ keepsMotors option ⌝ }
 {
     option == RENOVATE
+}
+
+// Whether an option pays removal where it ends before the horizon.
+pub fn pays_removal(option: u64) -> bool
+    ensures { λ b. ⌜ b ≡ paysRemoval option ⌝ }
+{
+    (option == RENOVATE) | (option == REPLACE)
 }
 
 // The year since which the motors of an option that starts in a year are in service.
@@ -98,7 +105,12 @@ pub fn arc_cost(sheet: Sheet, option: u64, start: u64, end: u64) -> Units
     ensures room { λ r. ⌜ r .0 ≤ (end - start) * yearly ⌝ }
 {
     let kept = kept_of(sheet, option, start);
-    kept.cost(Divisor::of(sheet.discount), end - start)
+    kept.cost(
+        Divisor::of(sheet.discount),
+        pays_removal(option),
+        end - start,
+        sheet.horizon,
+    )
 }
 
 // The cost of an arc: of an option kept from year start to year end. Its option's record is read once.
@@ -119,6 +131,11 @@ pub fn cost(sheet: &[u8], option: u64, start: u64, end: u64) -> Answer
     }
     let discount = sheet::discount_of(sheet);
     let kept = kept_on(terms, discount, since_of(option, start), start);
-    let units = kept.cost(Divisor::of(discount), end - start);
+    let units = kept.cost(
+        Divisor::of(discount),
+        pays_removal(option),
+        end - start,
+        horizon,
+    );
     base::accepted(units.0)
 }

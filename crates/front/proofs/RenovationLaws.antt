@@ -15,6 +15,7 @@ use Rattle.sheet.specs.declared.Sheet.{Sheet}
 use Rattle.sheet.specs.declared.Terms.{Terms}
 use Rattle.sheet.proofs.ParsedLaws.{horizon-read, terms-read}
 use Rattle.checking.specs.Fit.{Fit}
+use Rattle.steps.specs.Fit.{largestPayment}
 use Rattle.costing.specs.Offered.{offered}
 use Rattle.costing.specs.Fit.{yearly}
 use Rattle.costing.proofs.OfferedLaws.{offered-iff}
@@ -64,5 +65,5 @@ pub fits-next :
     (p : PlanningSheet) → Fit (parsed p) → (T : ℕ) (totals : List ℕ) (i total : ℕ) → T ≡ p .horizon → i < length totals
     → total ≡ renovated p i .total → WordsFit T 0 totals → WordsFit T 0 (set totals i total)
 fits-next p fit T totals i total same inside read fits e late within =
-    read-after (λ (v : ℕ). (v ≡ noTotal → ⊥) → v ≤ (T - e) * yearly) totals i total e inside
-    (λ (q : e ≡ i) some. let most = renovated-le p fit i (λ z. some (read ∙ z)) in rw (read, same, q) most) (λ other. fits e late within)
+    read-after (λ (v : ℕ). (v ≡ noTotal → ⊥) → v ≤ (T - e) * yearly + largestPayment) totals i total e inside
+    (λ (q : e ≡ i) some. let most = renovated-le p fit i (λ z. some (read ∙ z)) in rw (read, same, q) (omega arith)) (λ other. fits e late within)

@@ -7,7 +7,7 @@ use lib.ListN.{length, getD, take}
 use mathlib.Core.Logic.{_⊎_}
 use Rattle.base.specs.Lists.{firstOf}
 use Rattle.sheet.specs.Layout.{yearPlaces}
-use Rattle.sheet.specs.Sheet.{PlanningSheet, maintain}
+use Rattle.sheet.specs.Sheet.{PlanningSheet, maintain, renovate}
 use Rattle.sheet.specs.Parsed.{parsed}
 use Rattle.sheet.specs.declared.Sheet.{Sheet}
 use Rattle.costing.specs.Offered.{offered}
@@ -15,6 +15,7 @@ use Rattle.costing.specs.declared.Kept.{Kept}
 use Rattle.choice.specs.Running.{Entry, noTotal, noEntry, weigh}
 use Rattle.weighing.specs.Best.{inShort, numbers}
 use Rattle.weighing.specs.Ends.{bestTo, wordOf}
+use Rattle.weighing.specs.Ahead.{aheadOf, addsAt}
 use Rattle.weighing.specs.declared.Best.{Best}
 use Rattle.tails.specs.Tail.{tailFrom}
 use Rattle.front.specs.Planned.{renovated}
@@ -29,10 +30,15 @@ pub record Held (figure : PlanningSheet → ℕ → ℕ) (Domain : PlanningSheet
   pub room : yearPlaces ≤ length l
   pub held : (p : PlanningSheet) → s ≡ parsed p → (y : ℕ) → Domain p y → getD l y 0 ≡ figure p y
 
--- the lent words, once they are written: the least totals of replacements from each year; and beside them the ends of the first of these
+-- the lent words, once they are written: the least totals of replacements from each year
 abbrev pub TailsLent : Sheet → (words : List ℕ) → Type 0
 TailsLent = Held (λ p y. tailFrom p y .total) (λ p y. y ≤ p .horizon)
 
+-- the totals behind the ends of renovating: each of those totals, with what ending a renovation in its year adds
+abbrev pub AheadLent : Sheet → (ahead : List ℕ) → Type 0
+AheadLent = Held (λ p e. aheadOf (tailFrom p e .total) (addsAt p renovate e)) (λ p e. e ≤ p .horizon)
+
+-- beside the words, the ends of the first of the replacements from each year
 abbrev pub FirstsHeld : Sheet → (firsts : List ℕ) → Type 0
 FirstsHeld = Held (λ p y. firstOf (tailFrom p y .ends)) (λ p y. y ≤ p .horizon)
 
@@ -40,9 +46,9 @@ FirstsHeld = Held (λ p y. firstOf (tailFrom p y .ends)) (λ p y. y ≤ p .horiz
 abbrev pub Leads : Sheet → (j : ℕ) → Type 0
 Leads s j = (p : PlanningSheet) → s ≡ parsed p → tailFrom p j .total ≡ noTotal → ⊥
 
--- the choice of the end of an option that may also have length 0, which costs nothing
-abbrev pub bestKept : Kept → (T : ℕ) → (words : ℕ → ℕ) → Best
-bestKept a T words = bestTo a T words (weigh numbers (inShort noEntry) 0 (a .from) (words (a .from)))
+-- the choice of the end of an option that may also have length 0, which costs nothing and adds nothing to the total from there on
+abbrev pub bestKept : Kept → (T behind : ℕ) → (ahead : ℕ → ℕ) → Best
+bestKept a T behind ahead = bestTo a T ahead (weigh numbers (inShort noEntry) 0 (a .from) behind)
 
 -- no year has a total yet
 abbrev pub NoTotals : List ℕ → Type 0

@@ -8,21 +8,22 @@ use division::Divisor;
 use steps::Units;
 use weighing::Best;
 
-// The choice of the end of such an option by the totals behind the ends: length 0, which costs nothing, then the longer ones.
+// The choice of the end of such an option: length 0, which costs nothing, by the total from its start on, then the longer ones by the totals behind
+// their ends.
 pub fn best_from(
-    words: &[u64],
+    behind: u64,
+    ahead: &[u64],
     streams: &[u64],
     ages: &[u64; 8],
     kept: Kept,
     discount: Divisor,
     horizon: u64,
 ) -> Best
-    requires { ⌜ Walks kept discount horizon (now streams) (now ages) × WordsBehind kept horizon (now words) ⌝ }
-    ensures { λ r. ⌜ r ≡ bestKept kept horizon (wordOf (now (words .entry))) ⌝ }
+    requires { ⌜ Walks kept discount horizon (now streams) (now ages) × WordsBehind kept horizon (now ahead) ⌝ }
+    ensures { λ r. ⌜ r ≡ bestKept kept horizon behind (wordOf (now (ahead .entry))) ⌝ }
 {
     let from = kept.from;
     let nothing = Units(0);
-    let behind = words[from as usize];
     let best = weighing::weigh(true, weighing::NOTHING, nothing, from, behind);
-    weighing::best_end(words, streams, ages, kept, discount, horizon, best)
+    weighing::best_end(ahead, streams, ages, kept, discount, horizon, best)
 }

@@ -25,5 +25,13 @@ pub fn best_maintain(totals: &[u64], sheet: Sheet, discount: Divisor) -> Best
     let mut streams = [0u64; streams::PLACES];
     let ages = lending::lend(&mut streams, sheet, discount, MAINTAIN);
     let kept = costing::kept_of(sheet, MAINTAIN, 0);
-    keeping::best_from(totals, &streams, &ages, kept, discount, sheet.horizon)
+    keeping::best_from(
+        totals[0],
+        totals,
+        &streams,
+        &ages,
+        kept,
+        discount,
+        sheet.horizon,
+    )
 }

@@ -6,29 +6,47 @@ ghost use Rattle.sheet.specs.Layout.{yearPlaces};
 ghost use Rattle.sheet.specs.Sheet.{renovate};
 ghost use Rattle.checking.specs.Fit.{SheetFits};
 ghost use Rattle.steps.specs.Fit.{Divides};
-ghost use Rattle.streams.specs.Streams.{Lent};
+ghost use Rattle.streams.specs.Streams.{StreamsOf, Lent};
 ghost use Rattle.weighing.specs.Ends.{WordsFit};
-ghost use Rattle.front.specs.Front.{TailsLent, NoTotals, TotalsHeld, EndsHeld};
+ghost use Rattle.front.specs.Front.{TailsLent, AheadLent, NoTotals, TotalsHeld, EndsHeld};
 use crate::keeping;
 use base::order;
 use division::Divisor;
 use sheet::MAINTAIN;
 use sheet::RENOVATE;
 use sheet::Sheet;
+use sheet::YEARS;
 use streams::lending;
+use weighing::ahead;
+
+// Writes the totals behind the ends of renovating: at the horizon nothing is added.
+fn look_ahead(ahead: &mut [u64], words: &[u64], streams: &[u64], sheet: Sheet)
+    requires { ⌜ SheetFits sheet × (yearPlaces ≤ length (now ahead)) ⌝ }
+    requires { ⌜ StreamsOf sheet renovate (now streams) × TailsLent sheet (now words) ⌝ }
+    ensures { λ _. ⌜ AheadLent sheet (now (ahead .exit)) ⌝ }
+{
+    let horizon = sheet.horizon;
+    ahead[horizon as usize] = 0;
+    let mut year = horizon;
+    while 0 < year {
+        year -= 1;
+        ahead::look_ahead(ahead, words, streams, year);
+    }
+}
 
 // Writes, for year 0 and each later year in which maintaining may end, the least total from there and the end of renovating.
 fn fill(
     totals: &mut [u64],
     ends: &mut [u64],
     words: &[u64],
+    ahead: &[u64],
     streams: &[u64],
     ages: &[u64; 8],
     sheet: Sheet,
     discount: Divisor,
 )
     requires { ⌜ SheetFits sheet × Divides discount (sheet .discount) ⌝ }
-    requires { ⌜ Lent sheet renovate (now streams) (now ages) × TailsLent sheet (now words) ⌝ }
+    requires { ⌜ Lent sheet renovate (now streams) (now ages) × TailsLent sheet (now words) × AheadLent sheet (now ahead) ⌝ }
     requires { ⌜ NoTotals (now totals) × (yearPlaces ≤ length (now totals)) × (yearPlaces ≤ length (now ends)) ⌝ }
     ensures { λ _. ⌜ TotalsHeld sheet (now (totals .exit)) × WordsFit (sheet .horizon) 0 (now (totals .exit)) × EndsHeld sheet (now (ends .exit)) ⌝ }
 {
@@ -39,7 +57,8 @@ fn fill(
     let mut i: u64 = 0;
     while i <= top {
         let kept = costing::kept_of(sheet, RENOVATE, i);
-        let best = keeping::best_from(words, streams, ages, kept, discount, horizon);
+        let behind = words[i as usize];
+        let best = keeping::best_from(behind, ahead, streams, ages, kept, discount, horizon);
         totals[i as usize] = best.total;
         ends[i as usize] = best.end;
         i = order::larger(i + 1, shortest);
@@ -61,5 +80,16 @@ pub fn renovations(
 {
     let mut streams = [0u64; streams::PLACES];
     let ages = lending::lend(&mut streams, sheet, discount, RENOVATE);
-    fill(totals, ends, words, &streams, &ages, sheet, discount);
+    let mut ahead = [0u64; YEARS];
+    look_ahead(&mut ahead, words, &streams, sheet);
+    fill(
+        totals,
+        ends,
+        words,
+        &ahead,
+        &streams,
+        &ages,
+        sheet,
+        discount,
+    );
 }

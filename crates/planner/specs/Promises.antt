@@ -15,10 +15,9 @@ use Rattle.base.specs.declared.Answer.{Answer}
 use Rattle.sheet.specs.Sheet.{PlanningSheet, sheetOf}
 use Rattle.checking.specs.Refusals.{checked}
 use Rattle.checking.specs.Passes.{Passes}
-use Rattle.costing.specs.Error.{allowance}
 use Rattle.chain.specs.Chain.{Chain, Feasible, roundedTotal, exactValue}
 use Rattle.chain.specs.ChosenChain.{ChosenChain}
-use Rattle.chain.specs.Error.{denominator, TotalNear}
+use Rattle.chain.specs.Error.{denominator, mostAbove, TotalNear}
 use Rattle.chain.specs.PlanBytes.{planSize, planLength, totalField, countField, decode}
 use Rattle.pricing.specs.Pricing.{priced}
 use Rattle.tails.specs.Words.{wordsNeeded}
@@ -81,17 +80,17 @@ LendsCheapest s words words′ = Ready s words → CheapestWords (sheetOf s) wor
 abbrev pub PricedAsPrinted : (s : List ℕ) (number total : ℕ) (plan′ : List ℕ) → Type 0
 PricedAsPrinted s number total plan′ = number ≡ 0 → priced s (take (planSize (countField plan′)) plan′) ≡ accepted total
 
--- the printed total is never below the returned chain's exact value, and at most (5T² + 3T)/2 units above it
+-- the printed total is never below the returned chain's exact value, and at most 3T² + T units above it
 abbrev pub PrintedNear : (s : List ℕ) (number total : ℕ) (plan′ : List ℕ) → Type 0
 PrintedNear s number total plan′ = number ≡ 0 → TotalNear (sheetOf s) (decode plan′) total
 
--- no feasible chain's exact value is more than (5T² + 3T)/2 units below the returned one's: both sides times 2 and the common denominator
+-- no feasible chain's exact value is more than 3T² + T units below the returned one's: both sides times the common denominator
 abbrev pub NoneFarBelow : (s : List ℕ) (number : ℕ) (plan′ : List ℕ) → Type 0
 NoneFarBelow s number plan′ =
     let p = sheetOf s in
     number ≡ 0
     → (c : Chain) → Feasible p c
-    → 2 * exactValue p (decode plan′) ≤ 2 * exactValue p c + allowance (p .horizon) * denominator p
+    → exactValue p (decode plan′) ≤ exactValue p c + mostAbove (p .horizon) * denominator p
 
 -- A refused call leaves the plan buffer untouched; the words are left unless the number is 0, 11 or 12. An accepted call leaves the bytes
 -- behind the plan.

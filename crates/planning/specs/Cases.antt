@@ -1,5 +1,5 @@
--- Document 01's cases 9 to 12, planned, and the list of all twelve; and further plannings of its sheets, worked out by hand from the rules. The
--- bytes of plans are written out, not encoded. Definitions only.
+-- Document 01's cases 9 to 12, planned, and the list of all twelve; and further plannings, of its sheets and of longer ones, worked out by hand
+-- from the rules. The bytes of plans are written out, not encoded. Definitions only.
 use Prim.Native.Nat.{ℕ, _-_}
 use mathlib.Core.List.{List, [], _∷_, _++_}
 use lib.ListN.{length, replicate}
@@ -7,7 +7,7 @@ use Rattle.base.specs.Answer.{accepted, refused}
 use Rattle.base.specs.Cases.{Case}
 use Rattle.base.specs.declared.Answer.{Answer}
 use Rattle.steps.specs.Cases.{casesOneToFive}
-use Rattle.costing.specs.CaseSheets.{sheet9, sheet10, sheet11, sheet12, oldMotorsSheet, freeSheet}
+use Rattle.costing.specs.CaseSheets.{sheet9, sheet10, sheet11, sheet12, oneOverhaul, longReplaceSheet, longSheet12, oldMotorsSheet, freeSheet}
 use Rattle.costing.specs.Cases.{casesSixToEight}
 use Rattle.chain.specs.CasePlans.{planOf}
 use Rattle.tails.specs.Cases.{absent}
@@ -43,6 +43,10 @@ total11 = 48 ∷ 117 ∷ replicate 6 0
 abbrev pub total12 : List ℕ
 total12 = 128 ∷ 169 ∷ 3 ∷ replicate 5 0
 
+-- 270,000 = (4 × 256 + 30) × 256 + 176
+abbrev pub totalWithRemoval : List ℕ
+totalWithRemoval = 176 ∷ 30 ∷ 4 ∷ replicate 5 0
+
 -- 9,525 = 37 × 256 + 53
 abbrev pub totalOfMotors : List ℕ
 totalOfMotors = 53 ∷ 37 ∷ replicate 6 0
@@ -69,6 +73,10 @@ casesOfPlanning =
     ∷ planCase (freeSheet 0 0 0 0 1 2) 23 (accepted 0) (planOf total10 0 0 (2 ∷ 3 ∷ []))
     -- renovating with motors a year old costs more than a replacement's 9,525; with new ones it would cost 9,432 and be planned
     ∷ planCase oldMotorsSheet 23 (accepted 9_525) (planOf totalOfMotors 1 1 (2 ∷ []) ++ replicate 2 255)
+    -- request 6: case 12's sheet with removal 3; and a sheet with T = 2 and an overhaul of 15 at age 1, on which two replacements cost 22, and 28 with a
+    -- removal of 6 between them, where one costs 27
+    ∷ planCase longSheet12 23 (accepted 270_000) (planOf totalWithRemoval 0 0 (2 ∷ 4 ∷ []))
+    ∷ planCase (longReplaceSheet 2 1 2 10 1 (oneOverhaul 1 15) 6) 23 (accepted 270_000) (planOf totalWithRemoval 0 0 (2 ∷ []) ++ replicate 2 255)
     -- the bytes behind the plan are left; a buffer that is a byte too short is left; no chain comes before no room
     ∷ planCase sheet12 25 (accepted 240_000) (planOf total12 0 0 (2 ∷ 4 ∷ []) ++ (255 ∷ 255 ∷ []))
     ∷ planCase sheet12 22 (refused 12 3) (replicate 22 255)

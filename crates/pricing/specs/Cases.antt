@@ -1,5 +1,5 @@
--- Plans priced: the plans of document 01's cases 11 and 12, with the totals it gives them, other chains of case 12's sheet and a renovation, worked
--- out by hand from the rules, and plans that are refused. The bytes are written out, not encoded. Definitions only.
+-- Plans priced: the plans of document 01's cases 11 and 12, with the totals it gives them, other chains of case 12's sheet, a renovation and chains
+-- with removals, worked out by hand from the rules, and plans that are refused. The bytes are written out, not encoded. Definitions only.
 use Prim.Native.Nat.{ℕ}
 use mathlib.Core.List.{List, [], _∷_, _++_}
 use lib.ListN.{take, replicate}
@@ -7,7 +7,7 @@ use lib.Seq.{sets}
 use Rattle.base.specs.Answer.{accepted, refused}
 use Rattle.base.specs.Cases.{Case}
 use Rattle.base.specs.declared.Answer.{Answer}
-use Rattle.costing.specs.CaseSheets.{sheet11, sheet12, oldMotorsSheet, freeSheet}
+use Rattle.costing.specs.CaseSheets.{sheet11, sheet12, oldMotorsSheet, longSheet12, removalSheet, freeSheet}
 use Rattle.chain.specs.CasePlans.{planOf, replacing}
 use Rattle.pricing.specs.Pricing.{priced}
 
@@ -33,6 +33,13 @@ casesOfPricing =
     -- a year renovated with motors a year old, where new ones would give 9,432, and a year of a replacement
     ∷ pricedCase oldMotorsSheet (planOf (replicate 8 0) 1 2 []) 9_621
     ∷ pricedCase oldMotorsSheet (planOf (replicate 8 0) 1 1 (2 ∷ [])) 9_525
+    -- with removal 3 before T: ends 2, 4, total 270,000; and 10, 1 and 3, then 10, 2 and 3, then 10 and 1
+    ∷ pricedCase longSheet12 (replacing 0 (2 ∷ 4 ∷ [])) 270_000
+    ∷ pricedCase longSheet12 (replacing 0 (1 ∷ 3 ∷ 4 ∷ [])) 400_000
+    -- maintaining to 1, renovating to 2, replacements to 3 and 4: the removal of the renovation 9,432, of the first replacement 17,253, and no other;
+    -- and maintaining to 1 and renovating to 1 pay none
+    ∷ pricedCase removalSheet (planOf (replicate 8 0) 1 2 (3 ∷ 4 ∷ [])) 26_685
+    ∷ pricedCase removalSheet (planOf (replicate 8 0) 1 1 (3 ∷ 4 ∷ [])) 17_253
     -- it stops before T, or goes past it; two ends are equal; a life of longest + 1; a byte behind the plan
     ∷ refusedCase sheet12 (replacing 0 (2 ∷ 3 ∷ []))
     ∷ refusedCase sheet12 (replacing 0 (2 ∷ 5 ∷ []))

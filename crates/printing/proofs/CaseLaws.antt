@@ -5,12 +5,13 @@ use Rattle.base.specs.Lists.{sumOf}
 use Rattle.base.specs.Numbers.{u16At, u32At, i32At, bytesOf, numberAt}
 use Rattle.base.specs.Answer.{_unless_else_}
 use Rattle.base.specs.Cases.{AllHold}
-use Rattle.sheet.specs.Sheet.{expenseAt, onceAt, optionAt, sheetOf, factor}
+use Rattle.sheet.specs.Layout.{recordLength}
+use Rattle.sheet.specs.Sheet.{expenseAt, onceAt, overhaulAt, removalAt, optionAt, sheetOf, factor}
 use Rattle.sheet.specs.Parsed.{flowOf, overhaulsOf, termsOf}
 use Rattle.checking.specs.Refusals.{inflationOk, inflationsOk, ageingOk, ageingsOk, ageBefore, overhaulOk, headerNumber, fieldsNumber, overhaulAnswer, firstBelow, optionAnswer, checked}
 use Rattle.steps.specs.Step.{divided, plain, inService, repeated}
 use Rattle.steps.specs.Payment.{rounded, once}
-use Rattle.costing.specs.Arc.{sinceOf, arcOf, inYear, investment, maintenance, electricity, ageOf, overhaul, forEach, paidIf, overhaulsBelow, paid, payments, cost}
+use Rattle.costing.specs.Arc.{sinceOf, arcOf, inYear, investment, maintenance, electricity, ageOf, overhaul, forEach, paidIf, overhaulsBelow, paid, removal, closing, payments, cost}
 use Rattle.costing.specs.Offered.{offered}
 use Rattle.choice.specs.Running.{weigh, overEnds}
 use Rattle.choice.specs.Table.{table, entry}
@@ -24,5 +25,5 @@ use Rattle.printing.specs.Showing.{printed, shown}
 use Rattle.printing.specs.Cases.{casesOfPrinting}
 
 pub printing-cases-hold : AllHold casesOfPrinting
-unfolding u16At u32At i32At expenseAt onceAt optionAt sheetOf factor flowOf overhaulsOf termsOf _unless_else_ inflationOk inflationsOk ageingOk ageingsOk ageBefore overhaulOk headerNumber fieldsNumber overhaulAnswer firstBelow optionAnswer checked sumOf divided plain inService repeated rounded sinceOf arcOf once inYear investment maintenance electricity ageOf overhaul forEach paidIf overhaulsBelow paid payments cost offered bytesOf numberAt endBytes header encode endsAt decode replacements activities weigh overEnds table entry bestEnd tailFrom renovated planned planning planAnswer planAfter places digits decimal line pairLine activityLines planLines printed shown
+unfolding u16At u32At i32At recordLength expenseAt onceAt overhaulAt removalAt optionAt sheetOf factor flowOf overhaulsOf termsOf _unless_else_ inflationOk inflationsOk ageingOk ageingsOk ageBefore overhaulOk headerNumber fieldsNumber overhaulAnswer firstBelow optionAnswer checked sumOf divided plain inService repeated rounded sinceOf arcOf once inYear investment maintenance electricity ageOf overhaul forEach paidIf overhaulsBelow paid removal closing payments cost offered bytesOf numberAt endBytes header encode endsAt decode replacements activities weigh overEnds table entry bestEnd tailFrom renovated planned planning planAnswer planAfter places digits decimal line pairLine activityLines planLines printed shown
 printing-cases-hold = (refl, (refl, (refl, tt)))

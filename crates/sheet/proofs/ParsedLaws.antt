@@ -1,11 +1,14 @@
 -- Laws of `Parsed.antt`: the terms at an index of the code's options (`getD-options`), and what a parsed sheet holds of document 01's
--- (`horizon-read`, `discount-read`, `terms-read`). Then, of `Sheet.antt`: an investment does not age. Assumes nothing.
+-- (`horizon-read`, `discount-read`, `terms-read`). Then, of `Sheet.antt`: neither an investment nor a removal ages, and a sheet that is not the
+-- longer one has no removal (`removal-none`). Assumes nothing.
 use Prim.Native.Nat.{ℕ, _+_, _<_}
 use mathlib.Core.Path.{_≡_, refl, ap}
+use mathlib.Core.Bool.{Bool, true, false}
 use mathlib.Core.List.{List}
 use lib.ListN.{getD}
 use Rattle.base.proofs.ListsLaws.{getD-listed}
-use Rattle.sheet.specs.Sheet.{PlanningSheet, onceAt, optionAt, sheetOf}
+use Rattle.sheet.specs.Layout.{isLong, recordStart}
+use Rattle.sheet.specs.Sheet.{PlanningSheet, onceAt, removalAt, optionAt, sheetOf}
 use Rattle.sheet.specs.Parsed.{termsOf, parsed}
 use Rattle.sheet.specs.declared.Sheet.{Sheet}
 use Rattle.sheet.specs.declared.Terms.{Terms}
@@ -32,3 +35,17 @@ module _ (s : Sheet) (p : PlanningSheet) (read : s ≡ parsed p) where
 pub investment-ageing : (s : List ℕ) (k : ℕ) → sheetOf s .option k .investment .ageing ≡ 0
 unfolding sheetOf optionAt onceAt
 investment-ageing s k = refl
+
+removalAt-ageing : (long : Bool) (s : List ℕ) (at : ℕ) → removalAt long s at .ageing ≡ 0
+unfolding removalAt onceAt
+removalAt-ageing true s at = refl
+removalAt-ageing false s at = refl
+
+pub removal-ageing : (s : List ℕ) (k : ℕ) → sheetOf s .option k .removal .ageing ≡ 0
+unfolding sheetOf optionAt
+removal-ageing s k = removalAt-ageing (isLong s) s (recordStart (isLong s) k + 89)
+
+-- what version 1 is read with, whatever the bytes behind a record are
+pub removal-none : (s : List ℕ) (k : ℕ) → isLong s ≡ false → sheetOf s .option k .removal .amount ≡ 0
+unfolding sheetOf optionAt removalAt
+removal-none s k short = ap (λ (long : Bool). removalAt long s (recordStart (isLong s) k + 89) .amount) short

@@ -22,6 +22,10 @@ minus n = 4_294_967_296 - n
 abbrev pub headerBytes : (horizon rate : ℕ) → List ℕ
 headerBytes horizon rate = (82 ∷ 67 ∷ 83 ∷ 1 ∷ 0 ∷ bytes16 horizon) ++ bytes32 rate
 
+-- the same of the longer sheet, version 2
+abbrev pub longHeaderBytes : (horizon rate : ℕ) → List ℕ
+longHeaderBytes horizon rate = (82 ∷ 67 ∷ 83 ∷ 2 ∷ 0 ∷ bytes16 horizon) ++ bytes32 rate
+
 -- overhauls, each an age and an amount; and the count of them, with the eight entries behind it
 abbrev pub entriesBytes : List (ℕ × ℕ) → List ℕ
 entriesBytes [] = []
@@ -33,3 +37,7 @@ overhaulsBytes os = (length os ∷ entriesBytes os) ++ replicate (48 - 6 * lengt
 -- a record: its lives; investment and its f; maintenance, its f and g; electricity, its f and g; overhaul inflation; and its overhauls
 abbrev pub recordBytes : (shortest longest : ℕ) (fields : List ℕ) → List (ℕ × ℕ) → List ℕ
 recordBytes shortest longest fields os = bytes16 shortest ++ bytes16 longest ++ fields32 fields ++ overhaulsBytes os
+
+-- what a record of the longer sheet ends with: a removal and its f
+abbrev pub removalBytes : (amount inflation : ℕ) → List ℕ
+removalBytes amount inflation = bytes32 amount ++ bytes32 inflation

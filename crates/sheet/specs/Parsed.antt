@@ -30,6 +30,7 @@ termsOf o =
       maintenance = flowOf (o .maintenance);
       electricity = flowOf (o .electricity);
       overhauls = overhaulsOf o;
+      removal = flowOf (o .removal);
     }
 
 unfoldable pub parsed : PlanningSheet → Sheet
@@ -50,4 +51,5 @@ noTerms =
       maintenance = record { amount = 0; grow = 0; age = 0 };
       electricity = record { amount = 0; grow = 0; age = 0 };
       overhauls = record { grow = 0; count = 0; ages = []; amounts = [] };
+      removal = record { amount = 0; grow = 0; age = 0 };
     }

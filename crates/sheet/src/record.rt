@@ -1,11 +1,11 @@
-// An option's record of 89 bytes, read into `Terms`.
+// An option's record of 89 or 97 bytes, read into `Terms`.
 
 ghost use mathlib.Core.Path.{_≡_};
 ghost use Prim.Native.Nat.{_+_, _≤_};
+ghost use mathlib.Core.Bool.{Bool, true};
 ghost use lib.ListN.{length};
 ghost use Rattle.base.specs.Lists.{listed};
-ghost use Rattle.sheet.specs.Layout.{recordLength};
-ghost use Rattle.sheet.specs.Sheet.{expenseAt, onceAt, optionAt};
+ghost use Rattle.sheet.specs.Sheet.{expenseAt, onceAt, overhaulAt, removalAt, optionAt};
 ghost use Rattle.sheet.specs.Parsed.{flowOf, overhaulsOf, termsOf};
 use crate::Flow;
 use crate::Overhauls;
@@ -39,8 +39,8 @@ fn flow_at(s: &[u8], at: usize) -> Flow
 
 // The ages of the eight overhauls of the record at `at`, their amounts, and all that it says of overhauls.
 fn ages_at(s: &[u8], at: usize) -> [u64; 8]
-    requires { ⌜ at + recordLength ≤ length (now s) ⌝ }
-    ensures { λ r. ⌜ r ≡ listed 8 (λ j. optionAt (now (s .entry)) at .overhaul j .age) ⌝ }
+    requires { ⌜ at + 89 ≤ length (now s) ⌝ }
+    ensures { λ r. ⌜ r ≡ listed 8 (λ j. overhaulAt (now (s .entry)) at j .age) ⌝ }
 {
     [
         numbers::u16_at(s, at + 41),
@@ -55,8 +55,8 @@ fn ages_at(s: &[u8], at: usize) -> [u64; 8]
 }
 
 fn amounts_at(s: &[u8], at: usize) -> [u64; 8]
-    requires { ⌜ at + recordLength ≤ length (now s) ⌝ }
-    ensures { λ r. ⌜ r ≡ listed 8 (λ j. optionAt (now (s .entry)) at .overhaul j .amount) ⌝ }
+    requires { ⌜ at + 89 ≤ length (now s) ⌝ }
+    ensures { λ r. ⌜ r ≡ listed 8 (λ j. overhaulAt (now (s .entry)) at j .amount) ⌝ }
 {
     [
         numbers::u32_at(s, at + 43),
@@ -71,8 +71,8 @@ fn amounts_at(s: &[u8], at: usize) -> [u64; 8]
 }
 
 fn overhauls_at(s: &[u8], at: usize) -> Overhauls
-    requires { ⌜ at + recordLength ≤ length (now s) ⌝ }
-    ensures { λ r. ⌜ r ≡ overhaulsOf (optionAt (now (s .entry)) at) ⌝ }
+    requires { ⌜ at + 89 ≤ length (now s) ⌝ }
+    ensures { λ r. ⌜ ((long : Bool) → r ≡ overhaulsOf (optionAt long (now (s .entry)) at)) ⌝ }
 {
     let ages = ages_at(s, at);
     let amounts = amounts_at(s, at);
@@ -84,12 +84,28 @@ fn overhauls_at(s: &[u8], at: usize) -> Overhauls
     }
 }
 
+// The removal that stands at `at` in the longer sheet; another sheet has none.
+fn removal_at(s: &[u8], at: usize, long: bool) -> Flow
+    requires { ⌜ (long ≡ true → at + 8 ≤ length (now s)) ⌝ }
+    ensures { λ r. ⌜ r ≡ flowOf (removalAt long (now (s .entry)) at) ⌝ }
+{
+    if long {
+        return once_at(s, at);
+    }
+    Flow {
+        amount: 0,
+        grow: 1_000_000,
+        age: 1_000_000,
+    }
+}
+
 // The terms of the option whose record starts at `at`.
-pub fn terms_at(s: &[u8], at: usize) -> Terms
-    requires { ⌜ at + recordLength ≤ length (now s) ⌝ }
-    ensures { λ r. ⌜ r ≡ termsOf (optionAt (now (s .entry)) at) ⌝ }
+pub fn terms_at(s: &[u8], at: usize, long: bool) -> Terms
+    requires { ⌜ (at + 89 ≤ length (now s)) × (long ≡ true → at + 97 ≤ length (now s)) ⌝ }
+    ensures { λ r. ⌜ r ≡ termsOf (optionAt long (now (s .entry)) at) ⌝ }
 {
     let overhauls = overhauls_at(s, at);
+    let removal = removal_at(s, at + 89, long);
     Terms {
         shortest: numbers::u16_at(s, at),
         longest: numbers::u16_at(s, at + 2),
@@ -97,5 +113,6 @@ pub fn terms_at(s: &[u8], at: usize) -> Terms
         maintenance: flow_at(s, at + 12),
         electricity: flow_at(s, at + 24),
         overhauls: overhauls,
+        removal: removal,
     }
 }

@@ -1,31 +1,34 @@
 -- Laws of what falls in a year, and of words to which it was added, for every figure of a payment. In order:
---     once-year, flow-year, investment-year      the years of payments
+--     once-year, flow-year, investment-year, removal-year      the years of payments
 --     set-raised      a store that adds to a word
 --     raised-one, raised-both      words, payment by payment
 --     below-raised, fallen-behind      what falls in a year is at most all, and nothing falls behind the last year
 --     upTo-in, upTo-out, fallen-upTo, fallen-past      a figure up to a last year
 --     raised-late, flow-cut, flow-late      payments behind the last year raise no word
---     raised-if, raised-unless, overhauls-none, overhauls-next, overhauls-all      an arc's overhauls, one by one
+--     raised-if, raised-unless      a payment that is due, and one that is not
+--     overhauls-none, overhauls-next, overhauls-all      an arc's overhauls, one by one
 --     flow-none, flow-next      a flow, year by year
---     arc-none, arc-raised      an arc, part by part
+--     paid-none, paid-raised      an arc but for its removal, part by part
+--     closing-raised, closing-unraised      its removal, and none
 --     sum-fits      a word that is raised fits in 64 bits
 -- Assumes nothing.
 use Prim.Native.Nat.{ℕ, zero, suc, _+_, _-_, _^_, _≤_, _<_, min}
 use mathlib.Core.Path.{_≡_, refl, sym, _∙_}
 use mathlib.Core.List.{List, [], _∷_, _++_}
+use mathlib.Core.Bool.{Bool, true, false}
 use native.Mathlib.Nat.{add-zero}
 use native.Mathlib.Omega.{arith}
 use native.Mathlib.Numerals.{add-one}
 use lib.Dec.{eqb, leb, ltb}
 use lib.ListN.{length, getD, set}
 use lib.Seq.{getD-set-same, getD-set-other}
-use borrow.Author.Tests.{eqb-true, eqb-false, ne-eqb, le-leb, lt-leb, leb-true, leb-false, lt-ltb, le-ltb}
+use borrow.Author.Tests.{eqb-true, eqb-false, ne-eqb, le-leb, lt-leb, leb-true, leb-false}
 use Rattle.base.specs.Lists.{Every, sumOf}
 use Rattle.base.proofs.TestLaws.{by-test}
 use Rattle.base.proofs.ListsLaws.{sumOf-append, sumOf-one}
 use Rattle.sheet.specs.declared.Flow.{Flow}
 use Rattle.steps.specs.Payment.{Payment, year, once}
-use Rattle.costing.specs.Arc.{inYear, investment, maintenance, electricity, ageOf, overhaul, forEach, paidIf, overhaulsBelow, paid}
+use Rattle.costing.specs.Arc.{inYear, investment, maintenance, electricity, ageOf, overhaul, forEach, paidIf, overhaulsBelow, paid, removal, closes, closing}
 use Rattle.costing.specs.declared.Kept.{Kept}
 use Rattle.costing.proofs.SumLaws as Sum
 use Rattle.spreading.specs.Fallen.{inOnly, falling, fallen}
@@ -44,6 +47,10 @@ flow-year w s t k old = omega arith
 pub investment-year : (a : Kept) → year (investment a) ≡ a .from
 unfolding investment
 investment-year a = once-year (a .terms .investment .amount) (a .terms .investment .grow) (a .from)
+
+pub removal-year : (a : Kept) (u : ℕ) → year (removal a u) ≡ u
+unfolding removal
+removal-year a u = once-year (a .terms .removal .amount) (a .terms .removal .grow) u
 
 -- a store that adds to a word
 pub set-raised : (l : List ℕ) (at v : ℕ) → at < length l → RaisedIn l (set l at (getD l at 0 + v)) at v
@@ -174,15 +181,14 @@ module _ (last : ℕ) (φ : Payment → ℕ) where
 
 -- an arc, part by part
 module _ (φ : Payment → ℕ) (old : List ℕ) where
-  -- an overhaul of an age less than the years of its arc, and one that is due behind them
-  pub raised-if :
-      (new : List ℕ) (age years : ℕ) (q : Payment) → age < years → Raised φ old new (q ∷ []) → Raised φ old new (paidIf (ltb age years) q)
+  -- a payment that is due, and one that is not
+  pub raised-if : (new : List ℕ) (due : Bool) (q : Payment) → due ≡ true → Raised φ old new (q ∷ []) → Raised φ old new (paidIf due q)
   unfolding paidIf
-  raised-if new age years q l h y = rw (lt-ltb age years l) (h y)
+  raised-if new due q t h y = rw t (h y)
 
-  pub raised-unless : (age years : ℕ) (q : Payment) → years ≤ age → Raised φ old old (paidIf (ltb age years) q)
+  pub raised-unless : (due : Bool) (q : Payment) → due ≡ false → Raised φ old old (paidIf due q)
   unfolding paidIf
-  raised-unless age years q l y = rw (le-ltb age years l) (raised-none φ old y)
+  raised-unless due q t y = rw t (raised-none φ old y)
 
   -- the first overhauls of an arc: none, one more, and all
   pub overhauls-none : (a : Kept) (n : ℕ) → Raised φ old old (firstOverhauls a n 0)
@@ -213,10 +219,10 @@ module _ (φ : Payment → ℕ) (old : List ℕ) where
       (raised-one φ middle new (inYear w s t (suc n)) (omega (arith, flow-year w s t (suc n) older)) e k))
 
   -- an arc of no years, and one of a year or more
-  pub arc-none : (a : Kept) {n : ℕ} → n ≡ 0 → Raised φ old old (paid a n)
-  arc-none a none y = rw (none, Sum.paid-zero (falling φ y) a) (sym (add-zero _))
+  pub paid-none : (a : Kept) {n : ℕ} → n ≡ 0 → Raised φ old old (paid a n)
+  paid-none a none y = rw (none, Sum.paid-zero (falling φ y) a) (sym (add-zero _))
 
-  pub arc-raised :
+  pub paid-raised :
       (a : Kept) (n : ℕ) (one two three new : List ℕ) {began since : ℕ} → 0 < n → began ≡ a .from → since ≡ a .since
       → Raised φ old one (investment a ∷ [])
       → Raised φ one two (overhaulsBelow a n)
@@ -224,9 +230,20 @@ module _ (φ : Payment → ℕ) (old : List ℕ) where
       → Raised φ three new (flowPaid (a .terms .electricity) since (a .from) n)
       → Raised φ old new (paid a n)
   unfolding maintenance electricity
-  arc-raised a zero one two three new some m e h i j k y = absurd (omega arith)
-  arc-raised a (suc n) one two three new some m e h i j k y =
+  paid-raised a zero one two three new some m e h i j k y = absurd (omega arith)
+  paid-raised a (suc n) one two three new some m e h i j k y =
       omega (arith, h y, i y, rw m at (j y), rw e at (k y), sumOf-one (falling φ y) (investment a), Sum.paid-parts (falling φ y) a n)
+
+  -- the removal of an arc, and none
+  pub closing-raised :
+      (a : Kept) (removed : Bool) (n T : ℕ) (new : List ℕ) → closes a removed n T ≡ true → Raised φ old new (removal a (a .from + n) ∷ [])
+      → Raised φ old new (closing a removed n T)
+  unfolding closing
+  closing-raised a removed n T new t h = raised-if new (closes a removed n T) (removal a (a .from + n)) t h
+
+  pub closing-unraised : (a : Kept) (removed : Bool) (n T : ℕ) → closes a removed n T ≡ false → Raised φ old old (closing a removed n T)
+  unfolding closing
+  closing-unraised a removed n T t = raised-unless (closes a removed n T) (removal a (a .from + n)) t
 
 -- a word that is raised fits in 64 bits
 pub sum-fits : (l : List ℕ) (at v last b : ℕ) → Below last b l → at ≤ last → b + v < 2 ^ 64 → getD l at 0 + v < 2 ^ 64

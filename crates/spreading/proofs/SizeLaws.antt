@@ -1,6 +1,7 @@
 -- Why 64 bits suffice for the words. In order:
 --     flow-most, first-most      how much the parts of an arc add of a figure that is at most `largestPayment` of each payment (`Small`)
---     room-after, room-opened, room-overhauled, room-maintained      words that leave room still do behind payments, and behind each part of an arc
+--     room-after, room-opened, room-overhauled, room-maintained, room-paid      words that leave room still do behind payments, and behind each
+--         part of an arc
 --     flow-cents-zero, flow-cents-suc, flow-moved, flow-cents-le      a flow's running cents: new, one year in service on, at the start of an
 --         arc, and up to year 15
 --     once-money-le, flow-money-le, cents-small      money of the year up to year 15 is such a figure
@@ -21,15 +22,15 @@ use Rattle.checking.specs.Fit.{FlowFits}
 use Rattle.steps.specs.Step.{repeated}
 use Rattle.steps.specs.Payment.{Payment, year, once}
 use Rattle.steps.specs.Fit.{largestPayment, Rates}
-use Rattle.costing.specs.Arc.{inYear, investment, maintenance, electricity, ageOf, overhaul, overhaulsBelow}
+use Rattle.costing.specs.Arc.{inYear, investment, maintenance, electricity, ageOf, overhaul, overhaulsBelow, paid, removal}
 use Rattle.costing.specs.Fit.{yearly, KeptFits, Small}
 use Rattle.costing.specs.declared.Kept.{Kept}
-use Rattle.costing.proofs.SizeLaws.{forEach-le, due-most}
+use Rattle.costing.proofs.SizeLaws.{forEach-le, due-most, paid-most}
 use Rattle.nominal.specs.Nominal.{nominalInService, cents, lastNominal}
 use Rattle.nominal.specs.Fit.{largestCents}
 use Rattle.nominal.proofs.SizeLaws.{cents-le}
 use Rattle.spreading.specs.Raised.{Raised, firstOverhauls, flowPaid, inMoney}
-use Rattle.spreading.specs.Asks.{Below, beforeArc, Room, MoneyFits, OnceFits}
+use Rattle.spreading.specs.Asks.{Below, beforePayment, beforeArc, Room, MoneyFits, OnceFits}
 use Rattle.spreading.specs.declared.Money.{Money}
 use Rattle.spreading.proofs.RaisedLaws.{flow-year, raised-both, below-raised, upTo-in, upTo-out}
 
@@ -90,6 +91,12 @@ module _ (φ : Payment → ℕ) (a : Kept) (ok : KeptFits a) (n : ℕ) (few : n 
         parts-room (9 + n) three (opened ++ m) (omega arith) same (raised-both φ old two three opened m (raised-both φ old one two _ _ h i) j)
         (omega (arith, sumOf-append φ opened m, opened-most, maintained-most φ a ok n small))
 
+  pub room-paid : (new : List ℕ) → length new ≡ length old → Raised φ old new (paid a n) → Room new last beforePayment
+  room-paid new same h =
+      let from = ok .from in
+      room-after φ last (a .from * yearly) (n * (11 * largestPayment)) beforePayment old new (paid a n) long same low h (paid-most φ a ok n small)
+      (omega arith)
+
 -- the factors of a payment, and a flow's running cents: at the start, one year in service on, and up to year 15
 once-rates : (amount grow y : ℕ) → grow ≤ 1_200_000 → Rates 1_200_000 (once amount grow y)
 unfolding once
@@ -144,7 +151,7 @@ module _ (m : Money) (h : MoneyFits m) where
       money-le discount (inYear w s t k) low (flow-rates discount w s t k positive fits) (unfold inYear in fits .amount)
 
   pub cents-small : (a : Kept) → KeptFits a → (n : ℕ) → Small (inMoney m) a n
-  unfolding investment overhaul maintenance electricity ageOf
+  unfolding investment overhaul maintenance electricity ageOf removal
   cents-small a ok n =
       let t = ok .terms in
       let low = ok .low in
@@ -154,4 +161,5 @@ module _ (m : Money) (h : MoneyFits m) where
         overhauled = λ j l. once-money-le _ _ _ (record { small = t .overhauls .amount j l; grown = omega (arith, t .overhauls .grow .high) });
         maintained = λ k l. flow-money-le (a .discount) (a .terms .maintenance) (a .from) (a .from) (suc k) (omega arith) high (t .maintenance);
         powered = λ k l. flow-money-le (a .discount) (a .terms .electricity) (a .since) (a .from) (suc k) (omega arith) high (t .electricity);
+        removed = once-money-le _ _ _ (record { small = t .removal .amount; grown = omega (arith, t .removal .grow .high) });
       }

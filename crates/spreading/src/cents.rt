@@ -1,12 +1,12 @@
 // Money of the year in cents, by year, up to a last year.
 
 ghost use mathlib.Core.Path.{_≡_};
-ghost use mathlib.Core.List.{[], _∷_};
+ghost use mathlib.Core.List.{[], _∷_, _++_};
 ghost use Prim.Native.Nat.{_+_, _^_, _<_, _≤_};
 ghost use lib.Dec.{ltb};
 ghost use lib.ListN.{length, getD};
 ghost use Rattle.steps.specs.Payment.{once};
-ghost use Rattle.costing.specs.Arc.{inYear, paidIf, overhaulsBelow, paid};
+ghost use Rattle.costing.specs.Arc.{inYear, paidIf, overhaulsBelow, paid, closing};
 ghost use Rattle.costing.specs.Fit.{KeptFits};
 ghost use Rattle.nominal.specs.Nominal.{cents};
 ghost use Rattle.spreading.specs.Raised.{RaisedIn, Raised, flowPaid, inMoney};
@@ -109,8 +109,8 @@ fn add_flow(words: &mut [u64], money: Money, flow: Flow, since: u64, from: u64, 
     }
 }
 
-// Adds what an arc of that many years pays.
-pub fn add_arc(words: &mut [u64], kept: Kept, money: Money, years: u64)
+// Adds what an arc of that many years pays, but for its removal.
+fn add_paid(words: &mut [u64], kept: Kept, money: Money, years: u64)
     requires { ⌜ MoneyArcAsks (now words) kept money years ⌝ }
     ensures { λ _. ⌜ Raised (inMoney money) (now (words .entry)) (now (words .exit)) (paid kept years) ⌝ }
 {
@@ -130,4 +130,32 @@ pub fn add_arc(words: &mut [u64], kept: Kept, money: Money, years: u64)
         kept.from,
         years,
     );
+}
+
+// Adds what such an arc pays when it ends.
+fn add_closing(words: &mut [u64], kept: Kept, money: Money, removed: bool, years: u64, horizon: u64)
+    requires { ⌜ MoneyAsks (now words) money beforePayment × KeptFits kept × (years ≤ 300) ⌝ }
+    ensures { λ _. ⌜ Raised (inMoney money) (now (words .entry)) (now (words .exit)) (closing kept removed years horizon) ⌝ }
+{
+    if !kept.closes(removed, years, horizon) {
+        return;
+    }
+    let terms = kept.terms;
+    let removal = terms.removal;
+    add_once(
+        words,
+        money,
+        removal.amount,
+        removal.grow,
+        kept.from + years,
+    );
+}
+
+// Adds what an arc of that many years pays.
+pub fn add_arc(words: &mut [u64], kept: Kept, money: Money, removed: bool, years: u64, horizon: u64)
+    requires { ⌜ MoneyArcAsks (now words) kept money years ⌝ }
+    ensures { λ _. ⌜ Raised (inMoney money) (now (words .entry)) (now (words .exit)) (paid kept years ++ closing kept removed years horizon) ⌝ }
+{
+    add_paid(words, kept, money, years);
+    add_closing(words, kept, money, removed, years, horizon);
 }

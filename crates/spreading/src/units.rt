@@ -1,12 +1,13 @@
 // Present values in units, by year.
 
 ghost use Prim.Native.Nat.{_+_, _*_, _^_, _<_, _≤_};
+ghost use mathlib.Core.List.{_++_};
 ghost use lib.Dec.{ltb};
 ghost use lib.ListN.{length, getD};
 ghost use Rattle.division.specs.Division.{DivisorReady};
 ghost use Rattle.steps.specs.Payment.{rounded, once};
 ghost use Rattle.steps.specs.Fit.{PlainFits};
-ghost use Rattle.costing.specs.Arc.{paidIf, overhaulsBelow, paid};
+ghost use Rattle.costing.specs.Arc.{paidIf, overhaulsBelow, paid, closing};
 ghost use Rattle.costing.specs.Fit.{Steppable};
 ghost use Rattle.spreading.specs.Raised.{RaisedIn, Raised, flowPaid};
 ghost use Rattle.spreading.specs.Asks.{beforePayment, beforeArc, Room, FlowAsks, ArcAsks};
@@ -82,8 +83,8 @@ fn add_flow(words: &mut [u64], discount: Divisor, flow: Flow, since: u64, from: 
     }
 }
 
-// Adds what an arc of that many years pays.
-pub fn add_arc(words: &mut [u64], kept: Kept, discount: Divisor, years: u64)
+// Adds what an arc of that many years pays, but for its removal.
+fn add_paid(words: &mut [u64], kept: Kept, discount: Divisor, years: u64)
     requires { ⌜ ArcAsks (now words) kept discount years ⌝ }
     ensures { λ _. ⌜ Raised (rounded (kept .discount)) (now (words .entry)) (now (words .exit)) (paid kept years) ⌝ }
 {
@@ -111,4 +112,45 @@ pub fn add_arc(words: &mut [u64], kept: Kept, discount: Divisor, years: u64)
         kept.from,
         years,
     );
+}
+
+// Adds what such an arc pays when it ends.
+fn add_closing(
+    words: &mut [u64],
+    kept: Kept,
+    discount: Divisor,
+    removed: bool,
+    years: u64,
+    horizon: u64,
+)
+    requires { ⌜ Steppable kept discount × (years ≤ 300) × Room (now words) (kept .from + years) beforePayment ⌝ }
+    ensures { λ _. ⌜ Raised (rounded (kept .discount)) (now (words .entry)) (now (words .exit)) (closing kept removed years horizon) ⌝ }
+{
+    if !kept.closes(removed, years, horizon) {
+        return;
+    }
+    let end = kept.from + years;
+    let terms = kept.terms;
+    let removal = terms.removal;
+    add(
+        words,
+        end,
+        paid_once(removal.amount, removal.grow, discount, end),
+    );
+}
+
+// Adds what an arc of that many years pays.
+pub fn add_arc(
+    words: &mut [u64],
+    kept: Kept,
+    discount: Divisor,
+    removed: bool,
+    years: u64,
+    horizon: u64,
+)
+    requires { ⌜ ArcAsks (now words) kept discount years ⌝ }
+    ensures { λ _. ⌜ Raised (rounded (kept .discount)) (now (words .entry)) (now (words .exit)) (paid kept years ++ closing kept removed years horizon) ⌝ }
+{
+    add_paid(words, kept, discount, years);
+    add_closing(words, kept, discount, removed, years, horizon);
 }

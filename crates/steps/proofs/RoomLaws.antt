@@ -1,6 +1,8 @@
 -- Why 64 bits suffice for a step: how large a running amount can be, and the products that a step makes of it. A plain step does not raise
--- an amount, a step in service raises it by one unit at most; so a payment made once is at most its amount (`once-le`). Assumes nothing.
+-- an amount, a step in service raises it by one unit at most; so a payment made once is at most its amount (`once-le`), and one
+-- of 0 stays 0 (`once-free`). Assumes nothing.
 use Prim.Native.Nat.{ℕ, zero, suc, _+_, _*_, _≤_, _<_}
+use mathlib.Core.Path.{_≡_, refl}
 use native.Mathlib.Nat.{mul-le-mul, mul-le-mul-left, le-trans, le-of-mul-le-mul-left}
 use native.Mathlib.Omega.{arith}
 use Rattle.steps.specs.Step.{divided, plain, inService, repeated}
@@ -92,3 +94,14 @@ amount-fits grow discount amount low high grown few = record { low = low; high =
 pub once-le : (discount amount grow year : ℕ) → 0 < discount → grow ≤ discount → rounded discount (once amount grow year) ≤ amount * 10_000
 unfolding rounded once repeated
 once-le discount amount grow year positive grown = plains-le grow discount positive grown year (amount * 10_000)
+
+-- an amount of 0 stays 0
+plains-free : (grow discount : ℕ) → 0 < discount → (u : ℕ) → repeated u (plain grow discount) 0 ≡ 0
+unfolding repeated plain
+plains-free grow discount positive zero = refl
+plains-free grow discount positive (suc u) =
+    rw (plains-free grow discount positive u) (omega (arith, divided-le (0 * grow) discount positive 0 (omega arith)))
+
+pub once-free : (discount : ℕ) → 0 < discount → (grow u : ℕ) → rounded discount (once 0 grow u) ≡ 0
+unfolding rounded once repeated
+once-free discount positive grow u = plains-free grow discount positive u

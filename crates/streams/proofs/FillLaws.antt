@@ -1,6 +1,7 @@
 -- Streams as they are filled: the value of the next year is a plain step on (`once-zero`, `once-suc`), which fits (`once-fits`), or a step in
--- service (`served-zero`, `served-suc`), of which electricity's stream is one (`power-kept`, `power-new`, `power-same`); the places before the one that is written are left (`left-next`), one stream more (`streams-next`), and streams that lie before what is written stay
--- (`stream-stays`, `left-through`). Assumes nothing.
+-- service (`served-zero`, `served-suc`), of which electricity's stream is one (`power-kept`, `power-new`, `power-same`); the places before the one that is written are left
+-- (`left-next`), one stream more (`streams-next`), and streams that lie before what is written stay (`stream-stays`, `streams-stay`,
+-- `left-through`). Assumes nothing.
 use Prim.Native.Nat.{ℕ, suc, _+_, _-_, _*_, _≤_, _<_}
 use mathlib.Core.Path.{_≡_, refl, ap, sym, subst, _∙_}
 use mathlib.Core.Bool.{true, false}
@@ -83,6 +84,13 @@ pub stream-stays :
     (at end : ℕ) (value : ℕ → ℕ) (last : ℕ) (old new : List ℕ) → at + last < end → Left end old new → Stream at value last old
     → Stream at value last new
 stream-stays at end value last old new h left s y l = left (at + y) (omega arith) ∙ s y l
+
+-- the streams of overhauls that end before what is written
+pub streams-stay :
+    (discount : ℕ) (o : Overhauls) (n last : ℕ) (old new : List ℕ) → last ≤ 300 → n ≤ 8 → Left (part 11) old new
+    → OverhaulStreams discount o n last old → OverhaulStreams discount o n last new
+streams-stay discount o n last old new short few left s j l =
+    stream-stays (part (3 + j)) (part 11) (onceIn discount (getD (o .amounts) j 0) (o .grow)) last old new (omega arith) left (s j l)
 
 -- one overhaul's stream more: those of the overhauls before it end before it
 pub streams-next :

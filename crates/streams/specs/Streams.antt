@@ -1,5 +1,5 @@
--- Streams: the values of an option's amounts in the years 0 to `last`, in one list of eleven parts of 301 years each. Part 0 is the
--- investment, part 1 maintenance, part 2 electricity as an arc from that year finds it, and part 3 + j the j-th overhaul, from 0.
+-- Streams: the values of an option's amounts in the years 0 to `last`, in one list of twelve parts of 301 years each. Part 0 is the
+-- investment, part 1 maintenance, part 2 electricity as an arc from that year finds it, part 3 + j the j-th overhaul, from 0, and part 11 removal.
 -- Definitions only.
 use Prim.Native.Nat.{ℕ, _+_, _*_, _≤_, _<_}
 use mathlib.Core.Path.{_≡_}
@@ -39,9 +39,13 @@ pub record Filled (at : ℕ) (value : ℕ → ℕ) (last : ℕ) (old new : List 
 abbrev pub part : ℕ → ℕ
 part k = k * yearPlaces
 
--- eleven parts
+-- twelve parts
 abbrev pub streamPlaces : ℕ
-streamPlaces = part 11
+streamPlaces = part 12
+
+-- what removal costs in a year
+abbrev pub removalOn : (streams : List ℕ) (year : ℕ) → ℕ
+removalOn streams year = getD streams (part 11 + year) 0
 
 -- the streams of the first n overhauls
 abbrev pub OverhaulStreams : (discount : ℕ) → Overhauls → (n last : ℕ) → List ℕ → Type 0
@@ -58,6 +62,7 @@ pub record Streams (discount : ℕ) (t : Terms) (last : ℕ) (s : List ℕ) : Ty
   pub investment : Stream (part 0) (onceIn discount (t .investment .amount) (t .investment .grow)) last s
   pub maintenance : Stream (part 1) (onceIn discount (t .maintenance .amount) (t .maintenance .grow)) last s
   pub overhauls : OverhaulStreams discount (t .overhauls) (t .overhauls .count) last s
+  pub removal : Stream (part 11) (onceIn discount (t .removal .amount) (t .removal .grow)) last s
 
 -- electricity's stream has, in the year in which an option that is kept starts, its running amount
 abbrev pub PowerAt : Kept → List ℕ → Type 0
@@ -69,10 +74,13 @@ pub record Falls (a : Kept) (n next : ℕ) : Type 0 where
   pub behind : (j : ℕ) → j < next → ageOf a j < n
   pub ahead : (j : ℕ) → next ≤ j → j < a .terms .overhauls .count → n ≤ ageOf a j
 
+-- the streams of a sheet's option, for the years up to T
+abbrev pub StreamsOf : Sheet → (option : ℕ) (streams : List ℕ) → Type 0
+StreamsOf s option streams = Streams (s .discount) (getD (s .options) option noTerms) (s .horizon) streams
+
 -- what is lent with a sheet for one of its options: that option's streams, the ages of its overhauls, and electricity's stream
 abbrev pub Lent : Sheet → (option : ℕ) (streams ages : List ℕ) → Type 0
 Lent s option streams ages =
-    let t = getD (s .options) option noTerms in
-    Streams (s .discount) t (s .horizon) streams
-    × (ages ≡ t .overhauls .ages)
+    StreamsOf s option streams
+    × (ages ≡ getD (s .options) option noTerms .overhauls .ages)
     × ((y : ℕ) → y ≤ s .horizon → PowerAt (keptOf s option y) streams)

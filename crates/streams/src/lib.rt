@@ -10,7 +10,7 @@ ghost use Rattle.steps.specs.Payment.{rounded};
 ghost use Rattle.costing.specs.Arc.{sinceOf, electricity, worth};
 ghost use Rattle.costing.specs.Fit.{KeptFits};
 ghost use Rattle.costing.specs.Walk.{overhaulsAt, walkAt};
-ghost use Rattle.streams.specs.Streams.{Stream, startIn, part, streamPlaces, Streams, PowerAt, Falls};
+ghost use Rattle.streams.specs.Streams.{Stream, startIn, part, streamPlaces, Streams, PowerAt, removalOn, Falls};
 use costing::Kept;
 use costing::Walk;
 use division::Divisor;
@@ -21,8 +21,11 @@ use steps::Units;
 mod filling;
 pub mod lending;
 
-// An option has eleven streams: investment, maintenance, electricity and eight overhauls.
-pub const PLACES: usize = 11 * YEARS;
+// An option has twelve streams: investment, maintenance, electricity, eight overhauls and removal.
+pub const PLACES: usize = 12 * YEARS;
+
+// Where the stream of removal begins.
+const REMOVALS: usize = 11 * YEARS;
 
 // What the overhauls of a year cost, and which overhaul falls next.
 pub struct Fallen {
@@ -40,10 +43,12 @@ pub fn fill(streams: &mut [u64], terms: Terms, option: u64, discount: Divisor, l
 {
     let i = terms.investment;
     let m = terms.maintenance;
+    let r = terms.removal;
     filling::stream(streams, 0, i.amount, i.grow, discount, last);
     filling::stream(streams, YEARS, m.amount, m.grow, discount, last);
     filling::electricity(streams, option, terms.electricity, discount, last);
     filling::overhauls(streams, terms.overhauls, discount, last);
+    filling::stream(streams, REMOVALS, r.amount, r.grow, discount, last);
 }
 
 // The running amount of electricity at the start of an arc.
@@ -52,6 +57,14 @@ pub fn power(streams: &[u64], kept: Kept) -> Units
     ensures { λ r. ⌜ r .0 ≡ rounded (kept .discount) (electricity kept 0) ⌝ }
 {
     Units(streams[2 * YEARS + kept.from as usize])
+}
+
+// What the removal of an option costs in a year.
+pub fn removal(streams: &[u64], year: u64) -> Units
+    requires { ⌜ (year ≤ 300) × (streamPlaces ≤ length (now streams)) ⌝ }
+    ensures { λ r. ⌜ r .0 ≡ removalOn (now (streams .entry)) year ⌝ }
+{
+    Units(streams[REMOVALS + year as usize])
 }
 
 // The arc before its first year, with the running amount of its electricity.

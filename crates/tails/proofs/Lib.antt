@@ -4,10 +4,12 @@
 --     TailLaws: each entry of the table is the one that document 01 asks
 --     WordLaws: what the words have after planning, and what they promise
 --     WritingLaws: a list written from T down
---     YearLaws: the choice from a year, by the words of the later years, is the table's
+--     AheadLaws: the totals behind the ends of an option
+--     YearLaws: the choice from a year, by the totals behind its ends, is the table's
 pub mod CaseLaws
 pub mod CheapestLaws
 pub mod TailLaws
 pub mod WordLaws
 pub mod WritingLaws
+pub mod AheadLaws
 pub mod YearLaws

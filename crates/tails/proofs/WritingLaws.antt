@@ -1,7 +1,6 @@
 -- A list of one figure of the table's entries can be written from T down: first the figure of T (`last-first`), then that of each year before
--- (`last-more`), two at a time (`last-two`), until all are written (`last-all`). The length is kept (`last-length`). The totals that are written
--- are held (`last-held`), with that of the year before once it is written (`held-next`), and what is asked of the lists holds on (`fillable-on`).
--- Assumes nothing.
+-- (`last-more`), two at a time (`last-two`), until all are written (`last-all`). The length is kept (`last-length`), and what is asked of the lists
+-- holds on (`fillable-on`) and is what settling a year asks (`fillable-settles`). Assumes nothing.
 use Prim.Native.Nat.{ℕ, zero, suc, _+_, _-_, _≤_, _<_}
 use mathlib.Core.Path.{_≡_, refl, sym, ap, _∙_}
 use mathlib.Core.List.{List, map}
@@ -21,23 +20,12 @@ use Rattle.choice.specs.Table.{nothingLeft, table, entry}
 use Rattle.choice.proofs.TableLaws.{table-last, table-length, table-cons}
 use Rattle.tails.specs.Tail.{bestEnd, tailFrom}
 use Rattle.tails.specs.Words.{totalOf, tails, ofYears}
-use Rattle.tails.specs.Writing.{withYear, ofLast, WordsHeld, YearWritten, TwoWritten, LastWritten, AllWritten, Fillable}
+use Rattle.tails.specs.Writing.{withYear, ofLast, YearWritten, TwoWritten, LastWritten, AllWritten, Settles, Fillable}
 
 module _ (p : PlanningSheet) where
   -- the table of the years from y on
   abbrev from : ℕ → List Entry
   from y = table (p .horizon) (bestEnd p replace) (p .horizon - y)
-
-  from-drop : (y : ℕ) → y ≤ p .horizon → from y ≡ drop y (tails p)
-  unfolding tails
-  from-drop zero h = rw (sub-zero (p .horizon))
-  from-drop (suc y) h =
-      let e : suc y ≡ y + 1 = omega arith in
-      rw e (ap (drop 1) (sym (table-cons (p .horizon) (bestEnd p replace) y h) ∙ from-drop y (omega arith)) ∙ drop-drop 1 y (tails p))
-
-  from-read : (y e j : ℕ) → e ≡ y + j → y ≤ p .horizon → getD (from y) j noEntry ≡ tailFrom p e
-  unfolding tails tailFrom entry
-  from-read y e j q h = rw (q, from-drop y h) (getD-drop y (tails p) j noEntry)
 
 -- any figure, written to any list
 module _ (figure : Entry → ℕ) (p : PlanningSheet) (list : List ℕ) where
@@ -62,15 +50,6 @@ module _ (figure : Entry → ℕ) (p : PlanningSheet) (list : List ℕ) where
   from-length : (n : ℕ) → length (ofLast figure p n list) ≡ length list
   unfolding ofLast
   from-length n = rw (length-sets)
-
-  from-figure :
-      p .horizon < length list → (y e : ℕ) → y ≤ e → e ≤ p .horizon
-      → getD (ofLast figure p (p .horizon - y) list) e 0 ≡ figure (tailFrom p e)
-  unfolding ofLast
-  from-figure room y e l u =
-      let many = table-length (p .horizon) (bestEnd p replace) (p .horizon - y) in
-      sets-same figure (from p y) noEntry list (p .horizon - (p .horizon - y)) e (e - y) (omega arith) (omega arith) (omega arith)
-      ∙ ap figure (from-read p y e (e - y) (omega arith) (omega arith))
 
 -- the same of a sheet as the code holds it, and of the list at entry and the lists that follow
 module _ (figure : Entry → ℕ) (s : Sheet) (list : List ℕ) where
@@ -112,29 +91,23 @@ module _ (figure : Entry → ℕ) (s : Sheet) (list : List ℕ) where
         let whole : p .horizon - y ≡ p .horizon = omega arith in
         written p read ∙ ap (λ (n : ℕ). ofLast figure p n list) whole ∙ from-all figure p list
 
--- the totals that are written are held
-pub last-held : (s : Sheet) (y : ℕ) (words words′ : List ℕ) → s .horizon < length words → LastWritten totalOf s y words words′ → WordsHeld s y words′
-last-held s y words words′ room written p read e l u =
-    ap (λ (l : List ℕ). getD l e 0) (written p read) ∙ from-figure totalOf p words (omega (arith, room, horizon-read s p read)) y e l u
-
--- and so is that of the year before, once it is written
-pub held-next :
-    (s : Sheet) (words words′ : List ℕ) (y : ℕ) → y < length words → WordsHeld s (y + 1) words → YearWritten totalOf s y words words′
-    → WordsHeld s y words′
-held-next s words words′ y room later new p read e l u =
-    rw (new p read)
-    (written-more (λ e. e) (λ e. tailFrom p e .total) (λ e. (y + 1 ≤ e) × (e ≤ p .horizon)) (λ e. (y ≤ e) × (e ≤ p .horizon)) words y room
-    refl (λ e d. d) (λ e h d. (omega (arith, h .0), h .1)) (λ e h. later p read e (h .0) (h .1)) e (l, u))
-
 -- what is handed to the writing is as asked after some writing too
 pub fillable-on :
-    (s : Sheet) (discount : Divisor) (streams ages words firsts words′ firsts′ : List ℕ) → Fillable s discount streams ages words firsts
-    → length words′ ≡ length words → length firsts′ ≡ length firsts → Fillable s discount streams ages words′ firsts′
-fillable-on s discount streams ages words firsts words′ firsts′ given long wide =
+    (s : Sheet) (discount : Divisor) (streams ages words firsts ahead words′ firsts′ ahead′ : List ℕ)
+    → Fillable s discount streams ages words firsts ahead → length words′ ≡ length words → length firsts′ ≡ length firsts
+    → length ahead′ ≡ length ahead → Fillable s discount streams ages words′ firsts′ ahead′
+fillable-on s discount streams ages words firsts ahead words′ firsts′ ahead′ given long wide deep =
     record {
       sheet = given .sheet;
       divides = given .divides;
       lent = given .lent;
       enough = omega (arith, given .enough);
       places = omega (arith, given .places);
+      behind = omega (arith, given .behind);
     }
+
+pub fillable-settles :
+    {s : Sheet} {discount : Divisor} {streams ages words firsts ahead : List ℕ} → Fillable s discount streams ages words firsts ahead
+    → Settles s streams words firsts ahead
+fillable-settles given =
+    record { sheet = given .sheet; lent = given .lent .0; enough = given .enough; places = given .places; behind = given .behind }

@@ -1,9 +1,10 @@
--- The words of document 01's sheets 9 to 12, and of the sheet of its cases 6 to 8, worked out by hand from the rules. Definitions only.
+-- The words of document 01's sheets 9 to 12, of the sheet of its cases 6 to 8, and of case 12's sheet with a removal, worked out by hand from the
+-- rules. Definitions only.
 use Prim.Native.Nat.{ℕ}
 use mathlib.Core.List.{List, [], _∷_, map}
 use Rattle.base.specs.Cases.{Case}
 use Rattle.sheet.specs.Sheet.{sheetOf}
-use Rattle.costing.specs.CaseSheets.{noOverhaul, arcSheet, sheet9, sheet10, sheet11, sheet12}
+use Rattle.costing.specs.CaseSheets.{noOverhaul, arcSheet, sheet9, sheet10, sheet11, sheet12, longSheet12}
 use Rattle.tails.specs.Words.{totalOf, firstEnd, tails}
 
 -- words 0 to T, and the first ends of the same years
@@ -29,4 +30,6 @@ casesOfTails =
     ∷ wordsOfSheet sheet12 (240_000 ∷ 230_000 ∷ 120_000 ∷ 110_000 ∷ 0 ∷ []) (2 ∷ 3 ∷ 4 ∷ 4 ∷ 0 ∷ [])
     -- with r 40,000 a later start costs less: from 1 it is case 6
     ∷ wordsOfSheet (arcSheet noOverhaul) (47_002 ∷ 27_755 ∷ 18_139 ∷ 0 ∷ []) (2 ∷ 3 ∷ 3 ∷ 0 ∷ [])
+    -- a removal of 3 where a replacement ends before T, none at T
+    ∷ wordsOfSheet longSheet12 (270_000 ∷ 260_000 ∷ 120_000 ∷ 110_000 ∷ 0 ∷ []) (2 ∷ 3 ∷ 4 ∷ 4 ∷ 0 ∷ [])
     ∷ []

@@ -14,6 +14,7 @@ ghost use Rattle.tails.specs.Writing.{AllWritten};
 use division::Divisor;
 use sheet::REPLACE;
 use sheet::Sheet;
+use sheet::YEARS;
 
 mod words;
 
@@ -30,5 +31,6 @@ pub fn tail_words(words: &mut [u64], firsts: &mut [u64], sheet: Sheet)
     let discount = Divisor::of(sheet.discount);
     let mut streams = [0u64; streams::PLACES];
     let ages = streams::lending::lend(&mut streams, sheet, discount, REPLACE);
-    words::fill(words, firsts, &streams, &ages, sheet, discount);
+    let mut ahead = [0u64; YEARS];
+    words::fill(words, firsts, &mut ahead, &streams, &ages, sheet, discount);
 }

@@ -3,16 +3,15 @@
 ghost use mathlib.Core.Path.{_≡_};
 ghost use Prim.Native.Nat.{_+_, _-_, _%_, _<_, _≤_};
 ghost use lib.ListN.{length, set};
-ghost use Rattle.sheet.specs.Layout.{yearPlaces};
-ghost use Rattle.weighing.specs.Ends.{WordsBehind, CostsKnown};
+ghost use Rattle.sheet.specs.Sheet.{replace};
 ghost use Rattle.tails.specs.Words.{totalOf, firstEnd};
-ghost use Rattle.tails.specs.Writing.{chosenBy, WordsHeld, YearWritten, TwoWritten, LastWritten, AllWritten, Fillable};
+ghost use Rattle.tails.specs.Writing.{AheadHeld, ChosenBehind, Settles, YearWritten, TwoWritten, LastWritten, AllWritten, Fillable};
 use base::order;
-use costing::Kept;
 use division::Divisor;
 use sheet::REPLACE;
 use sheet::Sheet;
 use weighing::Best;
+use weighing::ahead::look_ahead;
 
 // Writes what was chosen from a year: its total to the words, its end to the first ends.
 fn put(words: &mut [u64], firsts: &mut [u64], year: u64, best: Best)
@@ -24,34 +23,46 @@ fn put(words: &mut [u64], firsts: &mut [u64], year: u64, best: Best)
     firsts[year as usize] = best.end;
 }
 
-// Writes the word and the first end of a year by what the replacements from it cost.
-fn word(words: &mut [u64], firsts: &mut [u64], costs: &[u64], kept: Kept, horizon: u64)
-    requires { ⌜ CostsKnown kept horizon (now costs) × WordsBehind kept horizon (now words) × (yearPlaces ≤ length (now firsts)) ⌝ }
-    ensures words { λ _. ⌜ now (words .exit) ≡ set (now (words .entry)) (kept .from) (chosenBy kept horizon (now (words .entry)) .total) ⌝ }
-    ensures firsts { λ _. ⌜ now (firsts .exit) ≡ set (now (firsts .entry)) (kept .from) (chosenBy kept horizon (now (words .entry)) .end) ⌝ }
+// Writes those of a year by the choice of a replacement from it, and the total behind the ends of that year.
+fn settle(
+    words: &mut [u64],
+    firsts: &mut [u64],
+    ahead: &mut [u64],
+    streams: &[u64],
+    sheet: Sheet,
+    year: u64,
+    best: Best,
+)
+    requires { ⌜ Settles sheet (now streams) (now words) (now firsts) (now ahead) ⌝ }
+    requires { ⌜ (year < sheet .horizon) × ChosenBehind sheet year (now ahead) best ⌝ }
+    ensures words { λ _. ⌜ YearWritten totalOf sheet year (now (words .entry)) (now (words .exit)) ⌝ }
+    ensures firsts { λ _. ⌜ YearWritten firstEnd sheet year (now (firsts .entry)) (now (firsts .exit)) ⌝ }
+    ensures ahead { λ _. ⌜ AheadHeld replace sheet year (now (ahead .exit)) ⌝ }
 {
-    let chosen = weighing::best_of(words, costs, kept, horizon, weighing::NOTHING);
-    put(words, firsts, kept.from, chosen);
+    put(words, firsts, year, best);
+    look_ahead(ahead, words, streams, year);
 }
 
-// Writes those of one year, by the words of the later years.
+// Writes those of one year, by the totals behind the later years.
 fn one_year(
     words: &mut [u64],
     firsts: &mut [u64],
+    ahead: &mut [u64],
     streams: &[u64],
     ages: &[u64; 8],
     sheet: Sheet,
     discount: Divisor,
     year: u64,
 )
-    requires { ⌜ Fillable sheet discount (now streams) (now ages) (now words) (now firsts) ⌝ }
-    requires { ⌜ (year < sheet .horizon) × WordsHeld sheet (year + 1) (now words) ⌝ }
+    requires { ⌜ Fillable sheet discount (now streams) (now ages) (now words) (now firsts) (now ahead) ⌝ }
+    requires { ⌜ (year < sheet .horizon) × AheadHeld replace sheet (year + 1) (now ahead) ⌝ }
     ensures words { λ _. ⌜ YearWritten totalOf sheet year (now (words .entry)) (now (words .exit)) ⌝ }
     ensures firsts { λ _. ⌜ YearWritten firstEnd sheet year (now (firsts .entry)) (now (firsts .exit)) ⌝ }
+    ensures ahead { λ _. ⌜ AheadHeld replace sheet year (now (ahead .exit)) ⌝ }
 {
     let kept = costing::kept_of(sheet, REPLACE, year);
     let chosen = weighing::best_end(
-        words,
+        ahead,
         streams,
         ages,
         kept,
@@ -59,49 +70,54 @@ fn one_year(
         sheet.horizon,
         weighing::NOTHING,
     );
-    put(words, firsts, year, chosen);
+    settle(words, firsts, ahead, streams, sheet, year, chosen);
 }
 
 // Writes those of the horizon, and if it is odd those of the year before too. Answers the year that is reached, which is even.
 fn last_years(
     words: &mut [u64],
     firsts: &mut [u64],
+    ahead: &mut [u64],
     streams: &[u64],
     ages: &[u64; 8],
     sheet: Sheet,
     discount: Divisor,
 ) -> u64
-    requires { ⌜ Fillable sheet discount (now streams) (now ages) (now words) (now firsts) ⌝ }
+    requires { ⌜ Fillable sheet discount (now streams) (now ages) (now words) (now firsts) (now ahead) ⌝ }
     ensures reached { λ r. ⌜ (r % 2 ≡ 0) × (r ≤ sheet .horizon) ⌝ }
     ensures words { λ r. ⌜ LastWritten totalOf sheet r (now (words .entry)) (now (words .exit)) ⌝ }
     ensures firsts { λ r. ⌜ LastWritten firstEnd sheet r (now (firsts .entry)) (now (firsts .exit)) ⌝ }
+    ensures ahead { λ r. ⌜ AheadHeld replace sheet r (now (ahead .exit)) ⌝ }
 {
     let horizon = sheet.horizon;
     let arrived = Best { total: 0, end: 0 };
     put(words, firsts, horizon, arrived);
+    ahead[horizon as usize] = 0;
     if horizon % 2 == 0 {
         return horizon;
     }
     let year = horizon - 1;
-    one_year(words, firsts, streams, ages, sheet, discount, year);
+    one_year(words, firsts, ahead, streams, ages, sheet, discount, year);
     year
 }
 
-// Writes those of the two years before a year whose word, and those of later years, are written, and answers the earlier of the two.
+// Writes those of the two years before a year that is reached, and answers the earlier of the two.
 fn two_years(
     words: &mut [u64],
     firsts: &mut [u64],
+    ahead: &mut [u64],
     streams: &[u64],
     ages: &[u64; 8],
     sheet: Sheet,
     discount: Divisor,
     reached: u64,
 ) -> u64
-    requires { ⌜ Fillable sheet discount (now streams) (now ages) (now words) (now firsts) ⌝ }
-    requires { ⌜ (2 ≤ reached) × (reached ≤ sheet .horizon) × WordsHeld sheet reached (now words) ⌝ }
+    requires { ⌜ Fillable sheet discount (now streams) (now ages) (now words) (now firsts) (now ahead) ⌝ }
+    requires { ⌜ (2 ≤ reached) × (reached ≤ sheet .horizon) × AheadHeld replace sheet reached (now ahead) ⌝ }
     ensures reached { λ r. ⌜ r ≡ reached - 2 ⌝ }
     ensures words { λ _. ⌜ TwoWritten totalOf sheet reached (now (words .entry)) (now (words .exit)) ⌝ }
     ensures firsts { λ _. ⌜ TwoWritten firstEnd sheet reached (now (firsts .entry)) (now (firsts .exit)) ⌝ }
+    ensures ahead { λ r. ⌜ AheadHeld replace sheet r (now (ahead .exit)) ⌝ }
 {
     let horizon = sheet.horizon;
     let start = reached - 1;
@@ -123,8 +139,10 @@ fn two_years(
         horizon,
         years,
     );
-    word(words, firsts, &later, next, horizon);
-    word(words, firsts, &earlier, kept, horizon);
+    let second = weighing::best_of(ahead, &later, next, horizon, weighing::NOTHING);
+    settle(words, firsts, ahead, streams, sheet, start, second);
+    let first = weighing::best_of(ahead, &earlier, kept, horizon, weighing::NOTHING);
+    settle(words, firsts, ahead, streams, sheet, from, first);
     from
 }
 
@@ -132,17 +150,18 @@ fn two_years(
 pub fn fill(
     words: &mut [u64],
     firsts: &mut [u64],
+    ahead: &mut [u64],
     streams: &[u64],
     ages: &[u64; 8],
     sheet: Sheet,
     discount: Divisor,
 )
-    requires { ⌜ Fillable sheet discount (now streams) (now ages) (now words) (now firsts) ⌝ }
+    requires { ⌜ Fillable sheet discount (now streams) (now ages) (now words) (now firsts) (now ahead) ⌝ }
     ensures words { λ _. ⌜ AllWritten totalOf sheet (now (words .entry)) (now (words .exit)) ⌝ }
     ensures firsts { λ _. ⌜ AllWritten firstEnd sheet (now (firsts .entry)) (now (firsts .exit)) ⌝ }
 {
-    let mut y = last_years(words, firsts, streams, ages, sheet, discount);
+    let mut y = last_years(words, firsts, ahead, streams, ages, sheet, discount);
     while 0 < y {
-        y = two_years(words, firsts, streams, ages, sheet, discount, y);
+        y = two_years(words, firsts, ahead, streams, ages, sheet, discount, y);
     }
 }

@@ -35,7 +35,7 @@ fn two() {
 }
 
 // The small sheet with another horizon, up to which a replacement may last.
-fn lasting(horizon: u64) -> [u8; 278] {
+pub fn lasting(horizon: u64) -> [u8; 278] {
     put16(lives(small::sheet(), REPLACE_AT, 1, 16), 5, horizon)
 }
 

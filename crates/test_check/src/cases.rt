@@ -1,4 +1,5 @@
-// The cases, a function a rule or two. `at` is where an option's record starts; the number added to it is a field's place in the record.
+// The cases on sheets of version 1, and the versions, a function a rule or two. `at` is where an option's record starts; the number added to it is
+// a field's place in the record.
 
 ghost use Prim.Native.Nat.{_+_, _≤_};
 use crate::show::answer;
@@ -49,11 +50,45 @@ fn cut(name: &[u8], sheet: &[u8], length: usize) {
 // 1
 pub fn lengths() {
     let sheet = plain();
-    let longer = [0u8; 279];
     answer(b"plain", &sheet);
     cut(b"277 bytes", &sheet, 277);
-    answer(b"279 bytes", &longer);
     cut(b"no bytes", &sheet, 0);
+}
+
+// The mark, a version and T 1, then zeros: one byte more than any sheet has.
+fn zeros(version: u8) -> [u8; 303] {
+    let mut s = [0u8; 303];
+    s[0] = b'R';
+    s[1] = b'C';
+    s[2] = b'S';
+    s[3] = version;
+    s[5] = 1;
+    s
+}
+
+// 1 and 2: version 1 goes with 278 bytes, version 2 with 302, and no other with either.
+pub fn version_1() {
+    let sheet = zeros(1);
+    cut(b"version 1, 278 bytes", &sheet, 278);
+    cut(b"version 1, 279 bytes", &sheet, 279);
+    cut(b"version 1, 301 bytes", &sheet, 301);
+    cut(b"version 1, 302 bytes", &sheet, 302);
+    cut(b"version 1, 303 bytes", &sheet, 303);
+}
+
+pub fn version_2() {
+    let sheet = zeros(2);
+    cut(b"version 2, 278 bytes", &sheet, 278);
+    cut(b"version 2, 279 bytes", &sheet, 279);
+    cut(b"version 2, 301 bytes", &sheet, 301);
+    cut(b"version 2, 302 bytes", &sheet, 302);
+    cut(b"version 2, 303 bytes", &sheet, 303);
+}
+
+pub fn version_3() {
+    let sheet = zeros(3);
+    cut(b"version 3, 278 bytes", &sheet, 278);
+    cut(b"version 3, 302 bytes", &sheet, 302);
 }
 
 // 2 to 4
@@ -61,7 +96,6 @@ pub fn header() {
     set8(b"mark CCS", 0, 67);
     set8(b"mark RRS", 1, 82);
     set8(b"mark RCP", 2, 80);
-    set16(b"version 2", 3, 2);
     set16(b"version 257", 3, 257);
     set16(b"T 0", 5, 0);
     set16(b"T 1", 5, 1);
@@ -178,16 +212,23 @@ pub fn entries(at: usize)
     answer(b"overhaul 10^9 + 1", &over);
 }
 
-// 9, all eight entries used, of ages 1 to 8
-pub fn eight(at: usize)
+// All eight entries used, of ages 1 to 8.
+pub fn eight_used(at: usize) -> [u8; 278]
     requires { ⌜ at ≤ 189 ⌝ }
 {
     let two = put16(put16(plain(), at + 41, 1), at + 47, 2);
     let four = put16(put16(two, at + 53, 3), at + 59, 4);
     let six = put16(put16(four, at + 65, 5), at + 71, 6);
     let all = put16(put16(six, at + 77, 7), at + 83, 8);
-    let counted = put8(all, at + 40, 8);
-    answer(b"count 8", &counted);
+    put8(all, at + 40, 8)
+}
+
+// 9
+pub fn eight(at: usize)
+    requires { ⌜ at ≤ 189 ⌝ }
+{
+    let sheet = eight_used(at);
+    answer(b"count 8", &sheet);
 }
 
 // 9, two used entries

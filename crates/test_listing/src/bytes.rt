@@ -2,21 +2,21 @@
 
 // The next field goes to `at`. Past the end nothing is written; the sheets and plans of this program end before or at it.
 pub struct Bytes {
-    pub bytes: [u8; 278],
+    pub bytes: [u8; 302],
     pub at: usize,
 }
 
 impl Bytes {
     pub fn new(fill: u8) -> Bytes {
         Bytes {
-            bytes: [fill; 278],
+            bytes: [fill; 302],
             at: 0,
         }
     }
 
     fn with_byte(self, byte: u8) -> Bytes {
         let at = self.at;
-        if 278 <= at {
+        if 302 <= at {
             return self;
         }
         let mut next = self;

@@ -1,6 +1,7 @@
 // Document 01, 'Feasible chains': a chain, whether it is feasible, its total, and which of two chains of one total is taken.
 
 use crate::arcs::arc;
+use crate::arcs::renewal;
 use crate::figures::Figures;
 use crate::figures::Terms;
 use crate::numbers::minus;
@@ -72,7 +73,8 @@ pub fn replaced(f: Figures, chain: Chain) -> Price {
             if !lasts(f.replace, years) {
                 return INFEASIBLE;
             }
-            total = plus(total, arc(f.replace, f.rate, start, start, years));
+            let paid = renewal(f.replace, f.rate, start, start, years, f.horizon);
+            total = plus(total, paid);
             start = ends[k];
         }
     }
@@ -96,7 +98,7 @@ pub fn priced(f: Figures, chain: Chain) -> Price {
         return INFEASIBLE;
     }
     let maintain = arc(f.maintain, f.rate, 0, 0, chain.i);
-    let renovate = arc(f.renovate, f.rate, 0, chain.i, renovated);
+    let renovate = renewal(f.renovate, f.rate, 0, chain.i, renovated, f.horizon);
     Price {
         feasible: true,
         total: plus(plus(maintain, renovate), rest.total),

@@ -23,7 +23,7 @@ fn with_ends(header: Bytes, chain: Chain) -> Bytes {
 }
 
 // Nothing is written where no chain is feasible.
-pub fn plan(best: Best) -> [u8; 278] {
+pub fn plan(best: Best) -> [u8; 302] {
     let empty = Bytes::new(LEFT);
     if best.listed == 0 {
         return empty.bytes;

@@ -2,7 +2,9 @@
 
 use crate::draws::draws;
 use crate::figures::Figures;
+use crate::figures::NO_REMOVAL;
 use crate::figures::Overhauls;
+use crate::figures::Removal;
 use crate::figures::Terms;
 use crate::figures::Yearly;
 use crate::numbers::at_most;
@@ -51,6 +53,16 @@ fn overhauls(m: Manner, drawn: [u64; 32]) -> Overhauls {
     }
 }
 
+fn removal(m: Manner, drawn: [u64; 32], version: u64) -> Removal {
+    if version == 1 {
+        return NO_REMOVAL;
+    }
+    Removal {
+        amount: amount(m, drawn[28], drawn[29]),
+        growth: growth(m, drawn[30], drawn[7]),
+    }
+}
+
 // One option in five is not offered.
 fn shortest_life(kind: u64, x: u64) -> u64 {
     if kind % 5 == 0 {
@@ -62,7 +74,7 @@ fn shortest_life(kind: u64, x: u64) -> u64 {
     1 + x % 2
 }
 
-fn terms(m: Manner, drawn: [u64; 32]) -> Terms {
+fn terms(m: Manner, drawn: [u64; 32], version: u64) -> Terms {
     let shortest = at_most(shortest_life(drawn[0], drawn[1]), 4);
     let longest = if shortest == 0 {
         0
@@ -77,21 +89,24 @@ fn terms(m: Manner, drawn: [u64; 32]) -> Terms {
         maintenance: yearly(m, drawn[8], drawn[9], drawn[10], drawn[11]),
         electricity: yearly(m, drawn[12], drawn[13], drawn[14], drawn[15]),
         overhauls: overhauls(m, drawn),
+        removal: removal(m, drawn, version),
     }
 }
 
-// T from 1 to 8, and 8 for three draws in ten.
+// T from 1 to 8, and 8 for three draws in ten; version 2 for every second draw.
 pub fn figures(seed: u64) -> Figures {
     let drawn = draws(seed);
     let first = draws(drawn[31]);
     let second = draws(first[31]);
     let third = draws(second[31]);
     let m = manner_of(drawn[1], drawn[2], drawn[3]);
+    let version = 1 + drawn[5] % 2;
     Figures {
+        version: version,
         horizon: 1 + at_most(drawn[4] % 10, 7),
         rate: m.rate,
-        maintain: terms(m, first),
-        renovate: terms(m, second),
-        replace: terms(m, third),
+        maintain: terms(m, first, version),
+        renovate: terms(m, second, version),
+        replace: terms(m, third, version),
     }
 }

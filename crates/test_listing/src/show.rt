@@ -25,9 +25,11 @@ pub fn differs(number: u64, what: &[u8], same: bool) -> u64 {
 
 pub fn tally(t: Tally) {
     line(b"sheets", t.sheets);
+    line(b"version 2", t.version_2);
     line(b"feasible", t.feasible);
     line(b"refused", t.refused);
     line(b"ties", t.ties);
+    line(b"changed by removals", t.changed);
     line(b"chains", t.chains);
     line(b"differences", t.differences);
 }

@@ -9,13 +9,17 @@ use test_sheets::lives;
 use test_sheets::paper::sheet;
 
 // Its five replacements fill 29 bytes, so the whole buffer is the plan that is priced.
-pub fn replacements() {
-    let s = sheet();
+pub fn five_replacements(name: &[u8], sheet: &[u8]) {
     let mut plan = [0u8; 29];
     let mut words = [0u64; 301];
-    in_buffers(b"paper", &s, &mut plan, &mut words);
-    let a = pricing::price(&s, &plan);
+    in_buffers(name, sheet, &mut plan, &mut words);
+    let a = pricing::price(sheet, &plan);
     priced(a);
+}
+
+pub fn replacements() {
+    let s = sheet();
+    five_replacements(b"paper", &s);
 }
 
 // Maintaining for 15 years and renovating for 30 ends in year 45, of 300.

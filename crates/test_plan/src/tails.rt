@@ -55,12 +55,16 @@ fn case_11() {
     kept(words);
 }
 
-fn case_12() {
-    let sheet = document::case_12();
-    let words = lent(&sheet);
-    heading(b"case 12, words");
+pub fn years_0_to_4(name: &[u8], sheet: &[u8]) {
+    let words = lent(sheet);
+    heading(name);
     years_0_to_3(words);
     year(words, 4);
+}
+
+fn case_12() {
+    let sheet = document::case_12();
+    years_0_to_4(b"case 12, words", &sheet);
 }
 
 pub fn cases() {
@@ -70,10 +74,10 @@ pub fn cases() {
     case_12();
 }
 
-pub fn replacements() {
-    let s = sheet();
-    let words = lent(&s);
-    heading(b"paper, words");
+// Where the replacements of the case study start, and its last years.
+pub fn years_to_300(name: &[u8], sheet: &[u8]) {
+    let words = lent(sheet);
+    heading(name);
     year(words, 0);
     year(words, 60);
     year(words, 120);
@@ -81,6 +85,11 @@ pub fn replacements() {
     year(words, 240);
     year(words, 299);
     year(words, 300);
+}
+
+pub fn replacements() {
+    let s = sheet();
+    years_to_300(b"paper, words", &s);
 }
 
 pub fn none() {

@@ -3,11 +3,13 @@
 ghost use Prim.Native.Nat.{_+_, _≤_};
 
 pub mod document;
+pub mod longer;
 pub mod paper;
 pub mod plans;
+pub mod removals;
 pub mod show;
 
-// Where the record of each option starts.
+// Where the record of each option starts in a sheet of version 1.
 pub const MAINTAIN_AT: usize = 11;
 
 pub const RENOVATE_AT: usize = 100;

@@ -8,7 +8,7 @@ fn heading(name: &[u8]) {
     io::write_all(OUT, b"\n");
 }
 
-// Of a file, one byte more than a sheet at most.
+// Of a file, one byte more than the longest sheet at most.
 fn shown(name: &[u8]) {
     heading(name);
     let file = os::open_read(name);
@@ -16,7 +16,7 @@ fn shown(name: &[u8]) {
         os::fail(name);
         return;
     }
-    let mut sheet = [0u8; 279];
+    let mut sheet = [0u8; 303];
     let length = io::read_full(file, &mut sheet);
     libc::close(file);
     let mut text = [0u8; 6069];
@@ -43,13 +43,25 @@ fn run_only() {
     shown(b"ageing-at-the-rate.sheet");
 }
 
+// Sheets of version 2, with removals.
+fn with_removal() {
+    shown(b"case-12-removed.sheet");
+    shown(b"removals-unpaid.sheet");
+    shown(b"all-three-removed.sheet");
+    shown(b"pumping-station-removed.sheet");
+    shown(b"removals-at-their-limits.sheet");
+}
+
 // Refusals 1 to 4.
 fn refused_by_the_header() {
     shown(b"refused-1-empty.sheet");
     shown(b"refused-1-short.sheet");
     shown(b"refused-1-long.sheet");
+    shown(b"refused-1-short-removed.sheet");
+    shown(b"refused-1-long-removed.sheet");
     shown(b"refused-2-mark.sheet");
     shown(b"refused-2-version.sheet");
+    shown(b"refused-2-version-removed.sheet");
     shown(b"refused-3-none.sheet");
     shown(b"refused-3-late.sheet");
     shown(b"refused-4.sheet");
@@ -69,9 +81,17 @@ fn refused_by_a_record() {
     shown(b"refused-9-replace.sheet");
 }
 
+// Refusals 6 and 7 of a removal.
+fn refused_by_a_removal() {
+    shown(b"refused-6-removal.sheet");
+    shown(b"refused-7-removal.sheet");
+}
+
 fn main() {
     planned();
     run_only();
+    with_removal();
     refused_by_the_header();
     refused_by_a_record();
+    refused_by_a_removal();
 }

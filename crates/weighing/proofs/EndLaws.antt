@@ -6,6 +6,7 @@ use mathlib.Core.Bool.{false, and-true, and-false}
 use native.Mathlib.Omega.{arith}
 use lib.Dec.{leb}
 use borrow.Author.Tests.{le-leb, lt-leb}
+use Rattle.steps.specs.Fit.{largestPayment}
 use Rattle.costing.specs.Arc.{paid, worth}
 use Rattle.costing.specs.Fit.{yearly, KeptFits}
 use Rattle.costing.specs.Walk.{walkAt}
@@ -49,7 +50,7 @@ module _ (a : Kept) where
 
   -- the cost of an arc and a word behind it leave room
   pub end-room :
-      KeptFits a → (T e : ℕ) {word : ℕ} → T ≤ 300 → a .from < e → e ≤ T → word ≤ (T - e) * yearly
+      KeptFits a → (T e : ℕ) {word : ℕ} → T ≤ 300 → a .from < e → e ≤ T → word ≤ (T - e) * yearly + largestPayment
       → keptCost a e + word ≤ (T - a .from) * yearly
   end-room h T e short late inside fits =
       let paid = paid-le a h (e - a .from) (omega arith) in

@@ -7,6 +7,7 @@ use mathlib.Core.Bool.{Bool, _&&_}
 use lib.Dec.{leb}
 use lib.ListN.{length, getD}
 use Rattle.division.specs.declared.Divisor.{Divisor}
+use Rattle.steps.specs.Fit.{largestPayment}
 use Rattle.costing.specs.Arc.{paid, worth}
 use Rattle.costing.specs.Fit.{yearly, KeptFits, Steppable}
 use Rattle.costing.specs.declared.Kept.{Kept}
@@ -15,7 +16,7 @@ use Rattle.streams.specs.Streams.{Streams, PowerAt}
 use Rattle.weighing.specs.Best.{numbers}
 use Rattle.weighing.specs.declared.Best.{Best}
 
--- whether an option that is kept may end in a year after its start, and what the arc costs
+-- whether an option that is kept may end in a year after its start, and what the arc costs, but for its removal
 abbrev pub mayEnd : Kept → ℕ → Bool
 mayEnd a e = leb (a .terms .shortest) (e - a .from) && leb (e - a .from) (a .terms .longest)
 
@@ -37,7 +38,7 @@ bestAfter a words best n = overEnds numbers (mayEnd a) (keptCost a) words (a .fr
 abbrev pub bestTo : Kept → (T : ℕ) (words : ℕ → ℕ) → Best → Best
 bestTo a T words best = bestAfter a words best (T - a .from)
 
--- what the arcs of an option that is kept cost, by their lengths: of one year, of two years, .., of that many
+-- what the arcs of an option that is kept cost, but for removal, by their lengths: of one year, of two years, .., of that many
 abbrev pub Costs : Kept → (years : ℕ) → List ℕ → Type 0
 Costs a years costs = (n : ℕ) → n < years → getD costs n 0 ≡ worth a (paid a (n + 1))
 
@@ -45,13 +46,13 @@ Costs a years costs = (n : ℕ) → n < years → getD costs n 0 ≡ worth a (pa
 abbrev pub CostsTo : Kept → (T : ℕ) → List ℕ → Type 0
 CostsTo a T costs = (n : ℕ) → n < a .terms .longest → a .from + n < T → getD costs n 0 ≡ worth a (paid a (n + 1))
 
--- the total that stands at a year: a lent word, or the total of renovating from there
+-- the total that stands at a year: a lent word, the total of renovating from there, or either with what ending there adds
 abbrev pub wordOf : List ℕ → ℕ → ℕ
 wordOf words y = getD words y 0
 
--- the words of the years after y leave room: where there is a total, it is at most 11 payments a year
+-- the words of the years after y leave room: where there is a total, it is at most 12 payments a year, and one more for what ending there adds
 abbrev pub WordsFit : (T y : ℕ) → List ℕ → Type 0
-WordsFit T y words = (e : ℕ) → y < e → e ≤ T → (wordOf words e ≡ noTotal → ⊥) → wordOf words e ≤ (T - e) * yearly
+WordsFit T y words = (e : ℕ) → y < e → e ≤ T → (wordOf words e ≡ noTotal → ⊥) → wordOf words e ≤ (T - e) * yearly + largestPayment
 
 -- what is asked of the words behind the ends of an option that is kept: it starts by T, T is not too far, there is a word for each year, and
 -- they leave room

@@ -12,6 +12,7 @@ use costing::Kept;
 use division::Divisor;
 use steps::Units;
 
+pub mod ahead;
 pub mod arcs;
 
 // A least total, and the end of the first activity of the list that has it.

@@ -5,10 +5,11 @@
 use crate::sheet::{Flow, Record, Sheet};
 use std::iter;
 
+const MAINTAIN: usize = 0;
 const RENOVATE: usize = 1;
 
 /// The amounts of an option's payments in the year in which it starts, 0, 1, and so on up to the
-/// horizon; those of overhauls in the year of the overhaul.
+/// horizon; those of overhauls in the year of the overhaul, and of removals in the year of the end.
 pub struct ArcCosts<'a> {
     record: &'a Record,
     horizon: usize,
@@ -18,6 +19,7 @@ pub struct ArcCosts<'a> {
     electricity: Vec<u64>,
     /// By the overhaul's age; the ages rise.
     overhauls: Vec<(usize, Vec<u64>)>,
+    removals: Vec<u64>,
 }
 
 impl ArcCosts<'_> {
@@ -45,6 +47,7 @@ impl ArcCosts<'_> {
                     (overhaul.age as usize, amounts)
                 })
                 .collect(),
+            removals: removals_at_end(option, record, discount, horizon),
         }
     }
 
@@ -64,7 +67,8 @@ impl ArcCosts<'_> {
             total += self.overhaul_at(start, length - 1);
             total += maintenance.next_year() + electricity.next_year();
             if lives.contains(&length) {
-                list.push((start + length, total));
+                let end = start + length;
+                list.push((end, total + self.removals[end]));
             }
         }
         list
@@ -83,6 +87,17 @@ fn electricity_at_start(option: usize, flow: &Flow, discount: u64, steps: usize)
         RENOVATE => service_steps(flow, discount, steps),
         _ => plain_steps(flow.amount, flow.inflation, discount, steps),
     }
+}
+
+/// Maintaining pays none, and nothing is paid at the horizon.
+fn removals_at_end(option: usize, record: &Record, discount: u64, horizon: usize) -> Vec<u64> {
+    let amount = match option {
+        MAINTAIN => 0,
+        _ => record.removal,
+    };
+    let mut amounts = plain_steps(amount, record.removal_inflation, discount, horizon);
+    amounts[horizon] = 0;
+    amounts
 }
 
 fn plain_steps(amount: i64, inflation: i64, discount: u64, steps: usize) -> Vec<u64> {

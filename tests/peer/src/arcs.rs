@@ -59,7 +59,7 @@ pub fn moved(arc: Arc) -> Vec<Arc> {
 }
 
 fn lives_of(sheet: &[u8], option: usize) -> [u64; 2] {
-    [SHORTEST, LONGEST].map(|inner| unsigned(sheet, of_option(option, inner)) as u64)
+    [SHORTEST, LONGEST].map(|inner| unsigned_in(sheet, option, inner) as u64)
 }
 
 /// Arcs that start after they end, where end − start, modulo 2^64, lies between the lives.
@@ -99,8 +99,8 @@ pub fn limit_arcs(random: &mut Random, sheet: &[u8]) -> Vec<Arc> {
 
 /// The lives and the used ages, with their neighbours, and the ends of what a sheet may have.
 fn limit_lengths(sheet: &[u8], option: usize) -> BTreeSet<u64> {
-    let count = unsigned(sheet, of_option(option, OVERHAUL_COUNT)) as usize;
-    let ages = (0..count).map(|entry| unsigned(sheet, of_option(option, overhaul_age(entry))));
+    let count = unsigned_in(sheet, option, OVERHAUL_COUNT) as usize;
+    let ages = (0..count).map(|entry| unsigned_in(sheet, option, overhaul_age(entry)));
     let lives = lives_of(sheet, option).into_iter();
     let near = lives
         .chain(ages.map(|age| age as u64))

@@ -63,7 +63,8 @@ impl Priced {
         let kept = kept.filter(|(_, start, end)| start < end);
         let payments: Vec<Payment> = kept
             .flat_map(|(option, start, end)| {
-                payments(option as u64, &sheet.records[option], start, end - start)
+                let record = &sheet.records[option];
+                payments(option as u64, record, [start, end], sheet.horizon)
             })
             .collect();
         let units = by_year(&payments, sheet.horizon, |paid| paid.value(sheet.rate));
@@ -118,7 +119,7 @@ fn by_year(payments: &[Payment], last: i64, figure: impl Fn(&Payment) -> u128) -
     }
     let words = sums.into_iter().map(u64::try_from);
     words
-        .map(|word| word.expect("three payments at most"))
+        .map(|word| word.expect("four payments at most"))
         .collect()
 }
 
@@ -278,13 +279,64 @@ mod tests {
         }
     }
 
+    // Replaced every second year, the removal of 3 falls in year 2 and not in year 4; replaced every
+    // year, in years 1 to 3.
+    #[test]
+    fn case_12_with_removal_by_year() {
+        for (ends, sums) in [
+            (&[2, 4][..], [10, 1, 14, 1, 1]),
+            (&[1, 4], [10, 14, 1, 16, 1]),
+            (&[3, 4], [10, 1, 16, 14, 1]),
+            (&[1, 2, 3, 4], [10, 14, 14, 14, 1]),
+        ] {
+            let (units, cents) = lists(&priced(&case_12_with_removal(), 0, 0, ends), 0);
+            assert_eq!(units, sums.map(|sum| sum * 10_000));
+            assert_eq!(cents, sums.map(|sum| sum * 100));
+        }
+    }
+
+    // In units as cost.rs has them. In cents, 100 by 1.001 are 100.1, so 101, by 1.01 then 102.01,
+    // so 103; again 103.1, so 104, and 105.04, so 106; then 107 and 109. 200 by 1.001 and 0.99 are
+    // 201, so 199; then 200 and 198; then 199 and 198.
+    #[test]
+    fn removals_in_the_word_of_their_end_year() {
+        for (i, j, ends, units, cents) in [
+            (
+                1,
+                2,
+                &[3, 4][..],
+                [0, 0, 9_432, 17_253, 0],
+                [0, 0, 106, 198, 0],
+            ),
+            (2, 3, &[4], [0, 0, 0, 9_160, 0], [0, 0, 0, 109, 0]),
+            (2, 2, &[4], [0; 5], [0; 5]),
+            (
+                0,
+                1,
+                &[2, 3, 4],
+                [0, 9_712, 18_124, 17_253, 0],
+                [0, 103, 198, 198, 0],
+            ),
+            (
+                0,
+                0,
+                &[1, 2, 4],
+                [0, 19_039, 18_124, 0, 0],
+                [0, 199, 198, 0, 0],
+            ),
+        ] {
+            let found = lists(&priced(&three_removals(), i, j, ends), 1_000);
+            assert_eq!(found, (units.to_vec(), cents.to_vec()));
+        }
+    }
+
     /// All options for any number of years, each with one payment of its own in its start year.
     fn three_investments(horizon: i64) -> Vec<u8> {
         let mut sheet = with_head(horizon, 0);
         for (option, amount) in [1, 20, 300].into_iter().enumerate() {
-            write(&mut sheet, of_option(option, SHORTEST), 1);
-            write(&mut sheet, of_option(option, LONGEST), 120);
-            write(&mut sheet, of_option(option, INVESTMENT), amount);
+            write_in(&mut sheet, option, SHORTEST, 1);
+            write_in(&mut sheet, option, LONGEST, 120);
+            write_in(&mut sheet, option, INVESTMENT, amount);
         }
         sheet
     }
@@ -302,6 +354,24 @@ mod tests {
         let (units, cents) = lists(&priced(&three_investments(17), 14, 15, &[16, 17]), 50_000);
         assert_eq!(units[14..], [200_000, 3_000_000, 3_000_000, 0]);
         assert_eq!(cents[14..], [3_967, 62_377]);
+    }
+
+    // An investment of 300 follows a removal of 300 or 4,000, unless that year is the horizon.
+    #[test]
+    fn removals_in_year_15_and_later() {
+        let mut sheet = as_version_2(&three_investments(17));
+        write_in(&mut sheet, 1, REMOVAL, 300);
+        write_in(&mut sheet, 2, REMOVAL, 4_000);
+        let (units, cents) = lists(&priced(&sheet, 14, 15, &[16, 17]), 50_000);
+        assert_eq!(units[14..], [200_000, 6_000_000, 43_000_000, 0]);
+        assert_eq!(cents[14..], [3_967, 2 * 62_377]);
+        let (units, cents) = lists(&priced(&sheet, 0, 0, &[15, 17]), 0);
+        assert_eq!(units[14..], [0, 43_000_000, 0, 0]);
+        assert_eq!(cents[14..], [0, 430_000]);
+        write(&mut sheet, HORIZON, 15);
+        let (units, cents) = lists(&priced(&sheet, 0, 0, &[14, 15]), 0);
+        assert_eq!(units[14..], [43_000_000, 0]);
+        assert_eq!(cents[14..], [430_000, 0]);
     }
 
     #[test]
@@ -333,7 +403,7 @@ mod tests {
         assert_eq!(packed(&two_year_sheet(), &[2], faulty), 14 * 4 + 3);
         assert_eq!(packed(&with_head(301, 0), &[2], faulty), 3 * 4 + 3);
         let mut sheet = two_year_sheet();
-        write(&mut sheet, of_option(1, LONGEST), 7);
+        write_in(&mut sheet, 1, LONGEST, 7);
         assert_eq!(packed(&sheet, &[1, 2], call(0, 3, 3)), 5 * 4 + 1);
     }
 }

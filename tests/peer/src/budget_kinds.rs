@@ -7,6 +7,7 @@ use crate::old_motors::{show_in_cents, show_in_units};
 use crate::parts::Parts;
 use crate::price;
 use crate::quotients::{Rest, RESTS};
+use crate::removals::{told_from, WrongRule, WRONG_RULES};
 use crate::rises::{Rate, RATES};
 
 /// What is refused first.
@@ -50,6 +51,9 @@ pub enum Kind {
     /// Words would be others if the motors of a renovation were new.
     OldMotorsInUnits,
     OldMotorsInCents,
+    /// Words would be others by a wrong rule.
+    RemovalInUnits(WrongRule),
+    RemovalInCents(WrongRule),
     Rise(Rate, Rest),
 }
 
@@ -113,6 +117,8 @@ impl Kind {
             .chain([0, 1, HIGHEST_GENERAL].map(Kind::General))
             .chain([Kind::PaidInYear15, Kind::Planned])
             .chain([Kind::OldMotorsInUnits, Kind::OldMotorsInCents])
+            .chain(WRONG_RULES.map(Kind::RemovalInUnits))
+            .chain(WRONG_RULES.map(Kind::RemovalInCents))
             .chain(Parts::all().map(Kind::Chain))
             .chain(rates.flat_map(|rate| RESTS.map(|rest| Kind::Rise(rate, rest))))
     }
@@ -145,11 +151,23 @@ impl Kind {
         let in_year_15 = cents.get(LAST_OF_CENTS as usize);
         let further = [
             (in_year_15.is_some_and(|&word| word > 0), Kind::PaidInYear15),
-            (show_in_units(priced), Kind::OldMotorsInUnits),
             (show_in_cents(priced, call.general), Kind::OldMotorsInCents),
         ];
         let further = further.into_iter().filter(|(is, _)| *is);
         kinds.extend(further.map(|(_, kind)| kind));
+        let told = told_from(|wrong| wrong.shows_in_cents(priced, call.general));
+        kinds.extend(told.map(Kind::RemovalInCents));
+        kinds
+    }
+
+    /// Those of every accepted call on a plan.
+    pub fn of_plan(sheet: &[u8], priced: &Priced) -> Vec<Kind> {
+        let mut kinds = vec![Kind::Chain(Parts::of(sheet, &priced.chain))];
+        if show_in_units(priced) {
+            kinds.push(Kind::OldMotorsInUnits);
+        }
+        let told = told_from(|wrong| wrong.shows_in_units(priced));
+        kinds.extend(told.map(Kind::RemovalInUnits));
         kinds
     }
 

@@ -1,19 +1,13 @@
 //! The sheets of document 01's plan cases, that of the paper's case study, two for budgets, and
-//! those on which request 4 shows.
+//! those on which requests 4 and 6 show.
 
 use crate::sheet::*;
-
-fn set(sheet: &mut [u8], option: usize, fields: &[(Field, i64)]) {
-    for &(inner, value) in fields {
-        write(sheet, of_option(option, inner), value);
-    }
-}
 
 /// Only replace is offered, r is 0, and all other fields are 0 but those given.
 fn only_replace(horizon: i64, shortest: i64, longest: i64, fields: &[(Field, i64)]) -> Vec<u8> {
     let mut sheet = with_head(horizon, 0);
-    set(&mut sheet, 2, &[(SHORTEST, shortest), (LONGEST, longest)]);
-    set(&mut sheet, 2, fields);
+    write_all_in(&mut sheet, 2, &[(SHORTEST, shortest), (LONGEST, longest)]);
+    write_all_in(&mut sheet, 2, fields);
     sheet
 }
 
@@ -86,11 +80,11 @@ pub fn paper_sheet() -> Vec<u8> {
             (OVERHAUL_INFLATION, 10_300),
             (OVERHAUL_COUNT, of.overhauls),
         ];
-        set(&mut sheet, option, &fields);
+        write_all_in(&mut sheet, option, &fields);
         for entry in 0..of.overhauls {
             let age = (overhaul_age(entry as usize), of.years_between * (entry + 1));
             let amount = (overhaul_amount(entry as usize), 150_000);
-            set(&mut sheet, option, &[age, amount]);
+            write_all_in(&mut sheet, option, &[age, amount]);
         }
     }
     sheet
@@ -108,7 +102,7 @@ pub fn two_year_sheet() -> Vec<u8> {
         (MAINTENANCE_INFLATION, 10_000),
         (MAINTENANCE_AGEING, 7_000),
     ];
-    set(&mut sheet, 2, &fields);
+    write_all_in(&mut sheet, 2, &fields);
     sheet
 }
 
@@ -123,7 +117,7 @@ pub fn fifteen_year_sheet() -> Vec<u8> {
         (MAINTENANCE_INFLATION, -40_000),
         (MAINTENANCE_AGEING, 250_000),
     ];
-    set(&mut sheet, 2, &fields);
+    write_all_in(&mut sheet, 2, &fields);
     sheet
 }
 
@@ -135,7 +129,7 @@ fn set_motors(sheet: &mut [u8], option: usize, longest: i64, ageing: i64) {
         (ELECTRICITY, 1),
         (ELECTRICITY_AGEING, ageing),
     ];
-    set(sheet, option, &fields);
+    write_all_in(sheet, option, &fields);
 }
 
 /// Renovate and replace have the same record, of one or two years.
@@ -156,7 +150,7 @@ pub fn postponed_sheet() -> Vec<u8> {
         (MAINTENANCE, 1),
         (MAINTENANCE_INFLATION, 19_900),
     ];
-    set(&mut sheet, 0, &fields);
+    write_all_in(&mut sheet, 0, &fields);
     set_motors(&mut sheet, 1, 2, 20_000);
     sheet
 }
@@ -165,7 +159,7 @@ pub fn postponed_sheet() -> Vec<u8> {
 /// whose motors age faster, costs less than a renovation, but more than one with new motors.
 pub fn replaced_sheet() -> Vec<u8> {
     let mut sheet = with_head(2, 40_000);
-    set(&mut sheet, 0, &[(SHORTEST, 1), (LONGEST, 1)]);
+    write_all_in(&mut sheet, 0, &[(SHORTEST, 1), (LONGEST, 1)]);
     set_motors(&mut sheet, 1, 1, 20_000);
     set_motors(&mut sheet, 2, 1, 30_000);
     sheet
@@ -183,7 +177,7 @@ fn costly_motors_sheet(inflation: i64, ageing: i64) -> Vec<u8> {
             (ELECTRICITY_INFLATION, inflation),
             (ELECTRICITY_AGEING, ageing),
         ];
-        set(&mut sheet, option, &fields);
+        write_all_in(&mut sheet, option, &fields);
     }
     sheet
 }
@@ -197,4 +191,41 @@ pub fn fastest_motors_sheet() -> Vec<u8> {
 /// is.
 pub fn steady_motors_sheet() -> Vec<u8> {
     costly_motors_sheet(-40_000, 250_000)
+}
+
+/// Case 12's sheet as version 2, with a removal of 3.
+pub fn case_12_with_removal() -> Vec<u8> {
+    let mut sheet = as_version_2(&case_12());
+    write_in(&mut sheet, 2, REMOVAL, 3);
+    sheet
+}
+
+/// Every option is offered for one or two years and has no payment but its removal; each removal has
+/// another amount and inflation.
+pub fn three_removals() -> Vec<u8> {
+    let mut sheet = VERSION_2.with_head(4, 40_000);
+    for (option, removal, inflation) in [(0, 5, 0), (1, 1, 10_000), (2, 2, -10_000)] {
+        let fields = [
+            (SHORTEST, 1),
+            (LONGEST, 2),
+            (REMOVAL, removal),
+            (REMOVAL_INFLATION, inflation),
+        ];
+        write_all_in(&mut sheet, option, &fields);
+    }
+    sheet
+}
+
+/// Only replace is offered, for one or two years, with an overhaul of 1 in the second one. Without
+/// its removal it would be replaced every year.
+pub fn lasting_sheet() -> Vec<u8> {
+    let mut sheet = as_version_2(&only_replace(4, 1, 2, &[]));
+    let fields = [
+        (OVERHAUL_COUNT, 1),
+        (overhaul_age(0), 1),
+        (overhaul_amount(0), 1),
+        (REMOVAL, 2),
+    ];
+    write_all_in(&mut sheet, 2, &fields);
+    sheet
 }

@@ -14,7 +14,7 @@ pub struct Lives {
 impl Lives {
     /// Those of a sheet that passes the check.
     pub fn on(sheet: &[u8]) -> Lives {
-        let life = |option, inner| unsigned(sheet, of_option(option, inner));
+        let life = |option, inner| unsigned_in(sheet, option, inner);
         Lives {
             horizon: unsigned(sheet, HORIZON),
             of: [0, 1, 2].map(|option| [SHORTEST, LONGEST].map(|inner| life(option, inner))),

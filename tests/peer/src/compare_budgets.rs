@@ -10,11 +10,11 @@ use crate::check::checked;
 use crate::damaged::random_sheet;
 use crate::library;
 use crate::lists::Lists;
-use crate::parts::Parts;
 use crate::plan::{plan_bytes, Chain, REPLACEMENTS};
 use crate::plans::*;
 use crate::price;
 use crate::random::Random;
+use crate::removals::WrongRule;
 use crate::report::{hex, Tally};
 use crate::rises::rises;
 use crate::sheet::unsigned;
@@ -24,13 +24,14 @@ use crate::sheets::*;
 const LEAST_SEEN: u64 = 100;
 /// Of each kind of sheet, so many get a few plans, each with a dozen calls.
 const BRIEF_SHEETS: usize = 500;
-const CHAINED_SHEETS: usize = 3_000;
+const CHAINED_SHEETS: usize = 2_500;
 const SMALL_SHEETS: usize = 1_500;
 const STEEP_SHEETS: usize = 1_000;
 const MOTORS_SHEETS: usize = 1_000;
 const LONG_SHEETS: usize = 30;
 const CORNER_SHEETS: usize = 20;
 const CORNER_MOTORS_SHEETS: usize = 20;
+const REMOVAL_SHEETS: usize = 500;
 const FREQUENT_SHEETS: usize = 30;
 /// This many get lists of every length.
 const SWEPT_SHEETS: usize = 30;
@@ -47,6 +48,8 @@ struct Case<'a> {
     sheet: &'a [u8],
     plan: &'a [u8],
     priced: Result<Priced, price::Refusal>,
+    /// What every accepted call shows of the plan.
+    kinds: Vec<Kind>,
     /// How many words the horizon needs; those of the longest one if the sheet is refused.
     needed: [usize; 2],
 }
@@ -54,10 +57,16 @@ struct Case<'a> {
 impl Case<'_> {
     fn of<'a>(sheet: &'a [u8], plan: &'a [u8]) -> Case<'a> {
         let horizon = checked(sheet).map_or(LONGEST_HORIZON, |sheet| sheet.horizon);
+        let priced = Priced::of(sheet, plan);
+        let kinds = match &priced {
+            Ok(priced) => Kind::of_plan(sheet, priced),
+            Err(_) => Vec::new(),
+        };
         Case {
             sheet,
             plan,
-            priced: Priced::of(sheet, plan),
+            priced,
+            kinds,
             needed: needed(horizon),
         }
     }
@@ -69,7 +78,7 @@ impl Case<'_> {
         };
         let priced = self.priced.as_ref().expect("an accepted plan");
         let mut kinds = Kind::of_accepted(priced, call, budget);
-        kinds.push(Kind::Chain(Parts::of(self.sheet, &priced.chain)));
+        kinds.extend(&self.kinds);
         kinds
     }
 
@@ -208,6 +217,9 @@ impl Comparison {
             replaced_sheet(),
             fastest_motors_sheet(),
             steady_motors_sheet(),
+            case_12_with_removal(),
+            three_removals(),
+            lasting_sheet(),
         ]
         .iter()
         .try_for_each(|sheet| self.some_plans(sheet))
@@ -272,14 +284,20 @@ impl Comparison {
         let calls = self.tally.summary("budgets", kinds, LEAST_SEEN)?;
         let [accepted, plan, general, lists] =
             [0, 14, 15, 16].map(|number| self.tally.seen(Kind::Number(number)));
-        let [units, cents] =
-            [Kind::OldMotorsInUnits, Kind::OldMotorsInCents].map(|kind| self.tally.seen(kind));
+        let [units, cents, removals, removals_in_cents] = [
+            Kind::OldMotorsInUnits,
+            Kind::OldMotorsInCents,
+            Kind::RemovalInUnits(WrongRule::NonePaid),
+            Kind::RemovalInCents(WrongRule::NonePaid),
+        ]
+        .map(|kind| self.tally.seen(kind));
         Ok(format!(
             "{calls}: number 0 {accepted} times, 14 {plan}, 15 {general}, 16 {lists}; all \
              {accepted} lists of units add up to the price; at every general inflation to \
              {HIGHEST_GENERAL}, and each rate with cents that are whole, just above and just below \
              a whole number; {units} lists of units and {cents} of cents would be others if \
-             renovating renewed the motors"
+             renovating renewed the motors, {removals} and {removals_in_cents} if no removal were \
+             paid"
         ))
     }
 }
@@ -295,6 +313,7 @@ pub fn compare_budgets(seed: u64) -> Result<String, String> {
     comparison.sheets_of(small_sheet, SMALL_SHEETS)?;
     comparison.sheets_of(steep_sheet, STEEP_SHEETS)?;
     comparison.sheets_of(motors_sheet, MOTORS_SHEETS)?;
+    comparison.sheets_of(removal_sheet, REMOVAL_SHEETS)?;
     comparison.sheets_of(long_sheet, LONG_SHEETS)?;
     comparison.sheets_of(corner_sheet, CORNER_SHEETS)?;
     comparison.sheets_of(corner_motors_sheet, CORNER_MOTORS_SHEETS)?;

@@ -14,15 +14,16 @@ use crate::library;
 use crate::old_motors::{costs_with_new, show_in_arc};
 use crate::quotients::{quotients, Division, Rest, DIVISIONS, RESTS};
 use crate::random::Random;
+use crate::removals::{told_from, WrongRule, WRONG_RULES};
 use crate::report::{difference, Tally};
-use crate::sheet::{of_option, unsigned, LONGEST};
+use crate::sheet::{Sheet, LAYOUTS};
 use crate::sheets::*;
 use std::iter::zip;
 
 /// Every kind of outcome must occur this often, or the arcs test too little.
 const LEAST_SEEN: u64 = 100;
 /// This many sheets get every arc.
-const SMALL_SHEETS: usize = 500;
+const SMALL_SHEETS: usize = 460;
 /// This many of them, and this many accepted arcs of each, get numbers up to 2^64 − 1.
 const FAR_SHEETS: usize = 30;
 const MOVED_ARCS: usize = 8;
@@ -32,6 +33,9 @@ const CORNER_SHEETS: usize = 24;
 /// This many sheets whose motors age fast get every arc, and this many every renovation.
 const MOTORS_SHEETS: usize = 60;
 const CORNER_MOTORS_SHEETS: usize = 4;
+/// This many sheets on which removals weigh get every arc, and this many those near their limits.
+const REMOVAL_SHEETS: usize = 30;
+const CORNER_REMOVAL_SHEETS: usize = 1;
 /// This many sheets, most of them refused, get a few arcs.
 const DAMAGED_SHEETS: usize = 20_000;
 /// Every discount rate up to this one gets quotients beside whole numbers.
@@ -48,27 +52,35 @@ enum Kind {
         option: u64,
         offered: bool,
     },
-    /// Length 1 or more of an option.
+    /// Length 1 or more of an option, on a sheet of a version.
     Costed {
+        version: i64,
         option: u64,
     },
     /// As well as the kind above.
     Quotient(Division, Rest),
     /// As well: the cost would be another one if the motors of the renovation were new.
     OldMotors,
+    /// As well: it would be another one by a wrong rule.
+    Removal(WrongRule),
 }
 
 impl Kind {
-    fn of(sheet: &[u8], arc: Arc, outcome: Result<u64, Refusal>) -> Kind {
+    fn of_refusal(refusal: Refusal) -> Kind {
+        match refusal {
+            Refusal::OfSheet(answer) => Kind::RefusedSheet(answer.packed()),
+            Refusal::OfArc(fault) => Kind::RefusedArc(fault),
+        }
+    }
+
+    fn of_accepted(sheet: &Sheet, arc: Arc) -> Kind {
         let option = arc.option;
-        match outcome {
-            Err(Refusal::OfSheet(answer)) => Kind::RefusedSheet(answer.packed()),
-            Err(Refusal::OfArc(fault)) => Kind::RefusedArc(fault),
-            Ok(_) if arc.start < arc.end => Kind::Costed { option },
-            Ok(_) => Kind::Empty {
-                option,
-                offered: unsigned(sheet, of_option(option as usize, LONGEST)) > 0,
-            },
+        let version = sheet.version;
+        if arc.start < arc.end {
+            Kind::Costed { version, option }
+        } else {
+            let offered = sheet.records[option as usize].longest > 0;
+            Kind::Empty { option, offered }
         }
     }
 
@@ -84,7 +96,10 @@ impl Kind {
         let empty = [0, 1]
             .into_iter()
             .flat_map(|option| [false, true].map(|offered| Kind::Empty { option, offered }));
-        let costed = (0..3).map(|option| Kind::Costed { option });
+        let costed = LAYOUTS.into_iter().flat_map(|layout| {
+            let version = layout.version;
+            [0, 1, 2].map(|option| Kind::Costed { version, option })
+        });
         let quotients = DIVISIONS
             .into_iter()
             .flat_map(|division| RESTS.map(|rest| Kind::Quotient(division, rest)));
@@ -95,6 +110,7 @@ impl Kind {
             .chain(costed)
             .chain(quotients)
             .chain([Kind::OldMotors])
+            .chain(WRONG_RULES.map(Kind::Removal))
     }
 
     fn described(self) -> String {
@@ -104,16 +120,27 @@ impl Kind {
             Kind::Empty { option, offered } => {
                 format!("length 0 of option {option}, offered {offered},")
             }
-            Kind::Costed { option } => format!("a cost of option {option}"),
+            Kind::Costed { version, option } => {
+                format!("a cost of option {option} in version {version}")
+            }
             Kind::Quotient(division, rest) => format!("{division:?} with rest {rest:?}"),
             Kind::OldMotors => "a cost with old motors".into(),
+            Kind::Removal(wrong) => format!("another cost than by {wrong:?}"),
         }
     }
 }
 
-/// Of an arc that is accepted. Most are replacements, for which the sheet need not be read.
-fn has_old_motors(sheet: &[u8], arc: Arc) -> bool {
-    arc.option == RENOVATE && show_in_arc(&checked(sheet).expect("an accepted sheet"), arc)
+/// A sheet of any kind, and what the check says of it.
+struct Case<'a> {
+    bytes: &'a [u8],
+    checked: Result<Sheet, Answer>,
+}
+
+impl Case<'_> {
+    fn of(bytes: &[u8]) -> Case<'_> {
+        let checked = checked(bytes);
+        Case { bytes, checked }
+    }
 }
 
 struct Comparison {
@@ -133,25 +160,48 @@ impl Comparison {
     }
 
     /// Whether both accept the arc.
-    fn compare(&mut self, sheet: &[u8], arc: Arc) -> Result<bool, String> {
-        let outcome = cost(sheet, arc);
-        self.expect(sheet, arc, answer(outcome))?;
-        self.tally.saw(Kind::of(sheet, arc, outcome));
-        if outcome.is_ok() && has_old_motors(sheet, arc) {
-            self.tally.saw(Kind::OldMotors);
+    fn compare(&mut self, case: &Case, arc: Arc) -> Result<bool, String> {
+        let outcome = cost(&case.checked, arc);
+        self.expect(case.bytes, arc, answer(outcome))?;
+        match (&case.checked, outcome) {
+            (Ok(sheet), Ok(_)) => self.count(sheet, arc),
+            (_, Err(refusal)) => self.tally.saw(Kind::of_refusal(refusal)),
+            (Err(_), Ok(_)) => unreachable!("a refused sheet has no costs"),
         }
         Ok(outcome.is_ok())
     }
 
+    /// Counts an arc that both accept.
+    fn count(&mut self, sheet: &Sheet, arc: Arc) {
+        self.tally.saw(Kind::of_accepted(sheet, arc));
+        if show_in_arc(sheet, arc) {
+            self.tally.saw(Kind::OldMotors);
+        }
+        for wrong in told_from(|wrong| wrong.shows_in_arc(sheet, arc)) {
+            self.tally.saw(Kind::Removal(wrong));
+        }
+    }
+
     /// The arcs that both accept.
     fn compare_all(&mut self, sheet: &[u8], arcs: Vec<Arc>) -> Result<Vec<Arc>, String> {
+        let case = Case::of(sheet);
         let mut accepted = Vec::new();
         for arc in arcs {
-            if self.compare(sheet, arc)? {
+            if self.compare(&case, arc)? {
                 accepted.push(arc);
             }
         }
         Ok(accepted)
+    }
+
+    /// Their costs are judged too.
+    fn judge_all(&mut self, sheet: &[u8], arcs: Vec<Arc>) -> Result<(), String> {
+        let accepted = self.compare_all(sheet, arcs)?;
+        for &arc in accepted.iter().filter(|arc| arc.start < arc.end) {
+            judge_cost(sheet, arc, library::cost(sheet, arc) / 256)?;
+            self.judged += 1;
+        }
+        Ok(())
     }
 
     fn small_sheets(&mut self, random: &mut Random) -> Result<(), String> {
@@ -199,25 +249,29 @@ impl Comparison {
         let mut small = vec![same_motors_sheet(), postponed_sheet(), replaced_sheet()];
         small.extend((0..MOTORS_SHEETS).map(|_| motors_sheet(random)));
         for sheet in small {
-            let accepted = self.compare_all(&sheet, every_arc(&sheet))?;
-            self.judge(&sheet, &accepted)?;
+            self.judge_all(&sheet, every_arc(&sheet))?;
         }
         let mut large = vec![fastest_motors_sheet(), steady_motors_sheet()];
         large.extend((0..CORNER_MOTORS_SHEETS).map(|_| corner_motors_sheet(random)));
         for sheet in large {
             let mut arcs = limit_arcs(random, &sheet);
             arcs.retain(|arc| arc.option == RENOVATE);
-            let accepted = self.compare_all(&sheet, arcs)?;
-            self.judge(&sheet, &accepted)?;
+            self.judge_all(&sheet, arcs)?;
             self.every_renovation(&sheet)?;
         }
         Ok(())
     }
 
-    fn judge(&mut self, sheet: &[u8], accepted: &[Arc]) -> Result<(), String> {
-        for &arc in accepted.iter().filter(|arc| arc.start < arc.end) {
-            judge_cost(sheet, arc, library::cost(sheet, arc) / 256)?;
-            self.judged += 1;
+    /// Sheets on which removals weigh, up to year 40 and up to year 300.
+    fn removals(&mut self, random: &mut Random) -> Result<(), String> {
+        let mut small = vec![case_12_with_removal(), three_removals(), lasting_sheet()];
+        small.extend((0..REMOVAL_SHEETS).map(|_| removal_sheet(random)));
+        for sheet in small {
+            self.judge_all(&sheet, every_arc(&sheet))?;
+        }
+        for _ in 0..CORNER_REMOVAL_SHEETS {
+            let sheet = corner_removal_sheet(random);
+            self.judge_all(&sheet, limit_arcs(random, &sheet))?;
         }
         Ok(())
     }
@@ -225,7 +279,7 @@ impl Comparison {
     /// The costs are those of the planner, which takes little time for all of them.
     fn every_renovation(&mut self, bytes: &[u8]) -> Result<(), String> {
         let sheet = checked(bytes).map_err(|_| "not a sheet")?;
-        let option = RENOVATE;
+        let (version, option) = (sheet.version, RENOVATE);
         let [renovations, with_new] = [ArcCosts::of(&sheet, 1), costs_with_new(&sheet)];
         for start in 0..=sheet.horizon as usize {
             let pairs = zip(renovations.from(start), with_new.from(start));
@@ -233,7 +287,7 @@ impl Comparison {
                 let [start, end] = [start, end].map(|year| year as u64);
                 let arc = Arc { option, start, end };
                 self.expect(bytes, arc, Answer::accepted(cost))?;
-                self.tally.saw(Kind::Costed { option });
+                self.tally.saw(Kind::Costed { version, option });
                 if cost != with_new {
                     self.tally.saw(Kind::OldMotors);
                 }
@@ -247,7 +301,7 @@ impl Comparison {
     fn every_rate(&mut self, random: &mut Random) -> Result<(), String> {
         for rate in 0..=HIGHEST_RATE {
             for quotient in quotients(random, rate) {
-                self.compare(&quotient.sheet, quotient.arc)?;
+                self.compare(&Case::of(&quotient.sheet), quotient.arc)?;
                 let kind = Kind::Quotient(quotient.division, quotient.rest);
                 self.tally.saw(kind);
             }
@@ -260,9 +314,9 @@ impl Comparison {
         for _ in 0..DAMAGED_SHEETS {
             let sheet = random_sheet(random);
             let option = random.below(4) as u64;
-            for (start, end) in [(0, 0), (0, 1), (1, 0), (u64::MAX, u64::MAX)] {
-                self.compare(&sheet, Arc { option, start, end })?;
-            }
+            let years = [(0, 0), (0, 1), (1, 0), (u64::MAX, u64::MAX)];
+            let arcs = years.map(|(start, end)| Arc { option, start, end });
+            self.compare_all(&sheet, arcs.into())?;
         }
         Ok(())
     }
@@ -273,10 +327,12 @@ impl Comparison {
         Ok(format!(
             "{calls}; at every rate to {HIGHEST_RATE}, both divisions with quotients that are \
              whole, just above and just below a whole number; all {} costs judged, from year t to \
-             u, from 0 to (5u² + 3u − 5t² − 3t)/2 units above their exact value; {} costs would be \
-             others if renovating renewed the motors",
+             u, from 0 to (A(u) − A(t))/2 units above their exact value, A(y) being 6y² + 4y and \
+             A(T) 6T² + 2T; {} costs would be others if renovating renewed the motors, {} if no \
+             removal were paid",
             self.judged,
-            self.tally.seen(Kind::OldMotors)
+            self.tally.seen(Kind::OldMotors),
+            self.tally.seen(Kind::Removal(WrongRule::NonePaid))
         ))
     }
 }
@@ -291,6 +347,7 @@ pub fn compare_costs(seed: u64) -> Result<String, String> {
     comparison.near_limits(&mut random, long_sheet, LONG_SHEETS)?;
     comparison.near_limits(&mut random, corner_sheet, CORNER_SHEETS)?;
     comparison.motors(&mut random)?;
+    comparison.removals(&mut random)?;
     comparison.damaged_sheets(&mut random)?;
     comparison.every_rate(&mut random)?;
     comparison.summary()

@@ -8,7 +8,8 @@ use crate::factor::{answer, factor, Fault, HIGHEST_RATE, LAST_YEAR, MILLION, TAB
 use crate::library;
 use crate::random::Random;
 use crate::report::Tally;
-use crate::sheet::{of_option, with_head, write, INVESTMENT, LONGEST, SHORTEST};
+use crate::sheet::{write_all_in, Field, Layout, INVESTMENT, LONGEST, REMOVAL, SHORTEST};
+use crate::valid::some_layout;
 
 /// Every kind of outcome must occur this often, or the pairs test too little.
 const LEAST_SEEN: u64 = 1_000;
@@ -92,12 +93,11 @@ fn moved(number: u64) -> impl Iterator<Item = u64> {
     (0..64).flat_map(move |bit| [number.wrapping_add(1 << bit), number.wrapping_sub(1 << bit)])
 }
 
-/// 10^8 currency units paid once, at the start of a replacement.
-fn paid_once(rate: u64) -> Vec<u8> {
-    let mut sheet = with_head(LAST_YEAR as i64, rate as i64);
-    for (inner, value) in [(SHORTEST, 1), (LONGEST, 1), (INVESTMENT, 100_000_000)] {
-        write(&mut sheet, of_option(2, inner), value);
-    }
+/// 10^8 currency units paid once by a replacement, as its investment or as its removal.
+fn paid_once(layout: Layout, rate: u64, paid: Field) -> Vec<u8> {
+    let mut sheet = layout.with_head(LAST_YEAR as i64, rate as i64);
+    let fields = [(SHORTEST, 1), (LONGEST, 1), (paid, 100_000_000)];
+    write_all_in(&mut sheet, 2, &fields);
     sheet
 }
 
@@ -204,18 +204,23 @@ impl Comparison {
         Ok(())
     }
 
-    /// 10^8 currency units paid in a year have its factor as their present value in units.
+    /// 10^8 currency units paid in a year have its factor as their present value in units: in
+    /// version 1 an investment, in version 2 the removal of what was built a year before.
     fn payments(&mut self, random: &mut Random) -> Result<(), String> {
         let drawn: Vec<u64> = (0..PAID_RATES).map(|_| some_rate(random)).collect();
         for rate in TABLE_RATES.into_iter().chain(drawn) {
-            let sheet = paid_once(rate);
-            for start in 0..LAST_YEAR {
+            let layout = some_layout(random);
+            let (paid, years) = match layout.has(REMOVAL) {
+                true => (REMOVAL, 1),
+                false => (INVESTMENT, 0),
+            };
+            let sheet = paid_once(layout, rate, paid);
+            for year in years..LAST_YEAR {
+                let start = year - years;
                 let [option, end] = [2, start + 1];
                 let cost = library::cost(&sheet, Arc { option, start, end });
-                if cost != library::factor(rate, start) {
-                    return Err(format!(
-                        "rate {rate} year {start}: not what a payment costs"
-                    ));
+                if cost != library::factor(rate, year) {
+                    return Err(format!("rate {rate} year {year}: not what a payment costs"));
                 }
                 self.paid += 1;
             }

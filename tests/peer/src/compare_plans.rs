@@ -16,13 +16,14 @@ use crate::parts::Parts;
 use crate::plan::{plan_bytes, written, HEAD_BYTES, TOTAL};
 use crate::planner::{planned, Planned};
 use crate::random::Random;
+use crate::removals::{self, told_from, WrongRule, WRONG_RULES};
 use crate::report::{difference, hex, Tally};
 use crate::sheet::{unsigned, Sheet, HORIZON};
 use crate::sheets::*;
 use std::collections::BTreeSet;
 
 /// Every kind of outcome must occur this often, or the sheets test too little.
-const LEAST_SEEN: u64 = 30;
+const LEAST_SEEN: u64 = 20;
 /// So many words are enough on every sheet, and one less is too few on each.
 const WORDS: usize = 301;
 /// No list is longer.
@@ -34,8 +35,8 @@ const ENOUGH_WORDS: [usize; 4] = [301, 302, 601, 602];
 const LISTED_HORIZON: i64 = 8;
 
 /// Of each kind of sheet: so many as they are, so many with ties.
-const BRIEF_SHEETS: [usize; 2] = [4_000, 2_500];
-const CHAINED_SHEETS: [usize; 2] = [2_000, 800];
+const BRIEF_SHEETS: [usize; 2] = [3_600, 2_500];
+const CHAINED_SHEETS: [usize; 2] = [1_700, 800];
 const SMALL_SHEETS: [usize; 2] = [800, 300];
 const LONG_SHEETS: [usize; 2] = [60, 30];
 const CORNER_SHEETS: [usize; 2] = [40, 30];
@@ -43,7 +44,11 @@ const FREQUENT_SHEETS: [usize; 2] = [120, 80];
 const BRIEF_MOTORS_SHEETS: [usize; 2] = [1_000, 0];
 const MOTORS_SHEETS: [usize; 2] = [500, 0];
 const CORNER_MOTORS_SHEETS: [usize; 2] = [10, 0];
-const FREQUENT_MOTORS_SHEETS: [usize; 2] = [300, 0];
+const FREQUENT_MOTORS_SHEETS: [usize; 2] = [240, 0];
+const BRIEF_REMOVAL_SHEETS: [usize; 2] = [400, 0];
+const REMOVAL_SHEETS: [usize; 2] = [300, 0];
+const CORNER_REMOVAL_SHEETS: [usize; 2] = [10, 0];
+const FREQUENT_REMOVAL_SHEETS: [usize; 2] = [60, 0];
 /// This many get every plan length up to that of the longest plan, and every count of words.
 const SWEPT_SHEETS: usize = 12;
 /// This many, most of them refused, get a few buffers.
@@ -81,10 +86,15 @@ enum Kind {
     OldMotors,
     OldMotorsTo300,
     OtherChain,
+    /// Of a sheet: by a wrong rule the total of the planned chain would be another one.
+    Removal(WrongRule),
+    /// Of a sheet: if all removals were 0, another chain would be planned; the same with T 300.
+    RemovalChangesChain,
+    RemovalChangesChainTo300,
 }
 
-/// Those that are not about a chain's parts, a refused sheet or a count of words.
-const FURTHER_KINDS: [(Kind, &str); 16] = [
+/// Those that are not about a chain's parts, a refused sheet, a count of words or a wrong rule.
+const FURTHER_KINDS: [(Kind, &str); 18] = [
     (Kind::TooFewWords, "number 10"),
     (Kind::NoChain, "number 11"),
     (Kind::ShortPlan, "number 12"),
@@ -101,14 +111,27 @@ const FURTHER_KINDS: [(Kind, &str); 16] = [
     (Kind::OldMotors, "a total with old motors"),
     (Kind::OldMotorsTo300, "a total to year 300 with old motors"),
     (Kind::OtherChain, "a chain chosen for its old motors"),
+    (Kind::RemovalChangesChain, "a chain chosen for its removals"),
+    (
+        Kind::RemovalChangesChainTo300,
+        "a chain to year 300 chosen for its removals",
+    ),
 ];
 
 fn all_kinds() -> impl Iterator<Item = (Kind, String)> {
     let sheets = possible_answers().filter(|&packed| packed != 3);
     let sheets = sheets.map(|packed| (Kind::RefusedSheet(packed), described(packed)));
     let chains = Parts::all().map(|parts| (Kind::Chain(parts), parts.described()));
+    let wrong = WRONG_RULES.map(|wrong| {
+        let described = format!("another total than by {wrong:?}");
+        (Kind::Removal(wrong), described)
+    });
     let further = FURTHER_KINDS.map(|(kind, name)| (kind, name.to_string()));
-    sheets.chain(chains).chain(words_kinds()).chain(further)
+    sheets
+        .chain(chains)
+        .chain(words_kinds())
+        .chain(wrong)
+        .chain(further)
 }
 
 fn words_kinds() -> impl Iterator<Item = (Kind, String)> {
@@ -206,6 +229,7 @@ impl Comparison {
         }
         self.count(bytes, &planned);
         self.count_motors(&sheet, &planned);
+        self.count_removals(&sheet, &planned);
         Ok(Outcome::Planned(planned))
     }
 
@@ -221,7 +245,7 @@ impl Comparison {
         for chain in feasible_chains(sheet) {
             if value.is_far_above(&Exact::of(sheet, &chain)) {
                 return Err(format!(
-                    "{chain:?} is more than (5T² + 3T)/2 units below the planned chain"
+                    "{chain:?} is more than 3T² + T units below the planned chain"
                 ));
             }
             self.chains += 1;
@@ -258,6 +282,26 @@ impl Comparison {
             (show && sheet.horizon == 300, Kind::OldMotorsTo300),
             (change_the_chain(sheet, planned), Kind::OtherChain),
         ]);
+    }
+
+    fn count_removals(&mut self, sheet: &Sheet, planned: &Planned) {
+        if let Some(choice) = &planned.choice {
+            for wrong in told_from(|wrong| wrong.shows_in_chain(sheet, &choice.chain)) {
+                self.tally.saw(Kind::Removal(wrong));
+            }
+        }
+    }
+
+    /// Counts a chain that is chosen for its removals.
+    fn count_changes(&mut self, bytes: &[u8]) -> Result<(), String> {
+        let sheet = checked(bytes).map_err(|_| "not a sheet")?;
+        let changes = removals::change_the_chain(&sheet, &planned(&sheet));
+        let to_300 = changes && sheet.horizon == 300;
+        self.saw_all([
+            (changes, Kind::RemovalChangesChain),
+            (to_300, Kind::RemovalChangesChainTo300),
+        ]);
+        Ok(())
     }
 
     /// Counts the kinds that are met.
@@ -398,6 +442,22 @@ impl Comparison {
         self.sheets_of(frequent_motors_sheet, FREQUENT_MOTORS_SHEETS, few)
     }
 
+    /// Sheets on which removals weigh.
+    fn removals(&mut self) -> Result<(), String> {
+        let all = |to: &mut Comparison, sheet: &[u8]| {
+            to.count_changes(sheet)?;
+            to.all_lengths(sheet)
+        };
+        let few = |to: &mut Comparison, sheet: &[u8]| {
+            to.count_changes(sheet)?;
+            to.few_lengths(sheet)
+        };
+        self.sheets_of(brief_removal_sheet, BRIEF_REMOVAL_SHEETS, all)?;
+        self.sheets_of(removal_sheet, REMOVAL_SHEETS, all)?;
+        self.sheets_of(corner_removal_sheet, CORNER_REMOVAL_SHEETS, few)?;
+        self.sheets_of(frequent_removal_sheet, FREQUENT_REMOVAL_SHEETS, few)
+    }
+
     fn cases(&mut self) -> Result<(), String> {
         [
             case_9(),
@@ -410,6 +470,9 @@ impl Comparison {
             replaced_sheet(),
             fastest_motors_sheet(),
             steady_motors_sheet(),
+            case_12_with_removal(),
+            three_removals(),
+            lasting_sheet(),
         ]
         .iter()
         .try_for_each(|sheet| self.all_lengths(sheet))
@@ -433,21 +496,27 @@ impl Comparison {
 
     fn summary(&self) -> Result<String, String> {
         let calls = self.tally.summary("plannings", all_kinds(), LEAST_SEEN)?;
-        let [accepted, few_words, no_chain, short_plan, ties, old_motors, other_chain] = [
+        let [accepted, few_words, no_chain, short_plan, ties] = [
             Kind::Accepted,
             Kind::TooFewWords,
             Kind::NoChain,
             Kind::ShortPlan,
             Kind::Ties,
+        ]
+        .map(|kind| self.tally.seen(kind));
+        let [old_motors, other_chain, removals, changed] = [
             Kind::OldMotors,
             Kind::OtherChain,
+            Kind::Removal(WrongRule::NonePaid),
+            Kind::RemovalChangesChain,
         ]
         .map(|kind| self.tally.seen(kind));
         Ok(format!(
             "{calls}: number 0 {accepted} times, 10 {few_words}, 11 {no_chain}, 12 {short_plan}; \
              {} sheets planned, {ties} with ties; {}; up to T {LISTED_HORIZON} none of {} chains \
              more than that below the planned one; {old_motors} planned totals and {other_chain} \
-             planned chains would be others if renovating renewed the motors",
+             planned chains would be others if renovating renewed the motors, {removals} totals and, \
+             of sheets drawn for it, {changed} chains if no removal were paid",
             self.sheets,
             totals_judged(accepted),
             self.chains
@@ -470,6 +539,7 @@ pub fn compare_plans(seed: u64) -> Result<String, String> {
     comparison.sheets_of(corner_sheet, CORNER_SHEETS, Comparison::few_lengths)?;
     comparison.sheets_of(frequent_sheet, FREQUENT_SHEETS, Comparison::few_lengths)?;
     comparison.motors()?;
+    comparison.removals()?;
     comparison.sweep()?;
     comparison.damaged_sheets()?;
     comparison.summary()

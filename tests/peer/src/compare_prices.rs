@@ -2,7 +2,7 @@
 //! their chains.
 
 use crate::answer::described;
-use crate::cases::{postponed_sheet, replaced_sheet, same_motors_sheet};
+use crate::cases::*;
 use crate::check::checked;
 use crate::compare::possible_answers;
 use crate::damaged::random_sheet;
@@ -15,19 +15,21 @@ use crate::plan::{read, written, Chain, Missing};
 use crate::plans::*;
 use crate::price::{answer, price, Fault, Refusal};
 use crate::random::Random;
+use crate::removals::{told_from, WrongRule, WRONG_RULES};
 use crate::report::{difference, hex, Tally};
 use crate::sheet::{unsigned, HORIZON};
 use crate::sheets::*;
 
 /// Every kind of outcome must occur this often, or the plans test too little.
-const LEAST_SEEN: u64 = 200;
+const LEAST_SEEN: u64 = 100;
 /// This many sheets get a dozen plans each.
-const CHAINED_SHEETS: usize = 12_000;
+const CHAINED_SHEETS: usize = 11_000;
 const SMALL_SHEETS: usize = 3_000;
 const LONG_SHEETS: usize = 250;
 const CORNER_SHEETS: usize = 250;
 const MOTORS_SHEETS: usize = 2_000;
 const CORNER_MOTORS_SHEETS: usize = 30;
+const REMOVAL_SHEETS: usize = 1_000;
 /// This many get every bit, every length and other values in every number of one plan.
 const SWEPT_SHEETS: usize = 40;
 /// This many, most of them refused, get a few plans.
@@ -48,6 +50,8 @@ enum Kind {
     PricedTo300,
     /// As well: the total would be another one if the motors of a renovation were new.
     OldMotors,
+    /// As well: it would be another one by a wrong rule.
+    Removal(WrongRule),
 }
 
 fn all_faults() -> Vec<Fault> {
@@ -94,6 +98,7 @@ impl Kind {
             .chain([Kind::SeveralFaults])
             .chain(Parts::all().map(Kind::Priced))
             .chain([Kind::PricedTo300, Kind::OldMotors])
+            .chain(WRONG_RULES.map(Kind::Removal))
     }
 
     fn described(self) -> String {
@@ -104,6 +109,7 @@ impl Kind {
             Kind::Priced(parts) => parts.described(),
             Kind::PricedTo300 => "a chain to year 300".into(),
             Kind::OldMotors => "a total with old motors".into(),
+            Kind::Removal(wrong) => format!("another total than by {wrong:?}"),
         }
     }
 }
@@ -141,9 +147,13 @@ impl Comparison {
         if unsigned(sheet, HORIZON) == 300 {
             self.tally.saw(Kind::PricedTo300);
         }
-        let read_sheet = checked(sheet).expect("an accepted sheet");
-        if show_in_chain(&read_sheet, &read(plan).expect("an accepted plan")) {
+        let sheet = checked(sheet).expect("an accepted sheet");
+        let chain = read(plan).expect("an accepted plan");
+        if show_in_chain(&sheet, &chain) {
             self.tally.saw(Kind::OldMotors);
+        }
+        for wrong in told_from(|wrong| wrong.shows_in_chain(&sheet, &chain)) {
+            self.tally.saw(Kind::Removal(wrong));
         }
         Ok(())
     }
@@ -184,9 +194,16 @@ impl Comparison {
         Ok(())
     }
 
-    /// Every chain of some sheets on which request 4 shows.
+    /// Every chain of some sheets on which request 4 or 6 shows.
     fn every_chain(&mut self) -> Result<(), String> {
-        for sheet in [same_motors_sheet(), postponed_sheet(), replaced_sheet()] {
+        for sheet in [
+            same_motors_sheet(),
+            postponed_sheet(),
+            replaced_sheet(),
+            case_12_with_removal(),
+            three_removals(),
+            lasting_sheet(),
+        ] {
             let chains = feasible_chains(&checked(&sheet).map_err(|_| "not a sheet")?);
             let plans = chains.iter().map(|chain| written(chain, 0)).collect();
             self.compare_all(&sheet, plans)?;
@@ -241,9 +258,11 @@ impl Comparison {
         let kinds = Kind::all().map(|kind| (kind, kind.described()));
         let calls = self.tally.summary("plans", kinds, LEAST_SEEN)?;
         Ok(format!(
-            "{calls}; {}; {} totals would be others if renovating renewed the motors",
+            "{calls}; {}; {} totals would be others if renovating renewed the motors, {} if no \
+             removal were paid",
             totals_judged(self.totals),
-            self.tally.seen(Kind::OldMotors)
+            self.tally.seen(Kind::OldMotors),
+            self.tally.seen(Kind::Removal(WrongRule::NonePaid))
         ))
     }
 }
@@ -260,6 +279,7 @@ pub fn compare_prices(seed: u64) -> Result<String, String> {
     comparison.some_plans(&mut random, corner_sheet, CORNER_SHEETS)?;
     comparison.some_plans(&mut random, motors_sheet, MOTORS_SHEETS)?;
     comparison.some_plans(&mut random, corner_motors_sheet, CORNER_MOTORS_SHEETS)?;
+    comparison.some_plans(&mut random, removal_sheet, REMOVAL_SHEETS)?;
     comparison.every_chain()?;
     comparison.swept_plans(&mut random)?;
     comparison.corner_plans(&mut random)?;

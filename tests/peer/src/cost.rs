@@ -1,14 +1,13 @@
-//! What an arc costs, and refusal 13, written from document 01 and document 02's requests 1 and 4
-//! alone. Every payment is moved forward on its own, from its amount in year 0 to its year.
+//! What an arc costs, and refusal 13, written from document 01 and document 02's requests 1, 4 and
+//! 6 alone. Every payment is moved forward on its own, from its amount in year 0 to its year.
 
 use crate::answer::Answer;
-use crate::check::checked;
 use crate::sheet::{Flow, Record, Sheet};
 use std::iter;
 
 const UNITS: u128 = 10_000;
 pub const MILLION: u128 = 1_000_000;
-const MAINTAIN: u64 = 0;
+pub const MAINTAIN: u64 = 0;
 pub const RENOVATE: u64 = 1;
 pub const REPLACE: u64 = 2;
 
@@ -38,12 +37,14 @@ pub enum Refusal {
     OfArc(Fault),
 }
 
-/// The cost of the arc, or why there is none.
-pub fn cost(bytes: &[u8], arc: Arc) -> Result<u64, Refusal> {
-    let sheet = checked(bytes).map_err(Refusal::OfSheet)?;
-    match fault(&sheet, arc) {
+/// The cost of the arc, or why there is none, by what the check says of the sheet.
+pub fn cost(checked: &Result<Sheet, Answer>, arc: Arc) -> Result<u64, Refusal> {
+    let sheet = checked
+        .as_ref()
+        .map_err(|&answer| Refusal::OfSheet(answer))?;
+    match fault(sheet, arc) {
         Some(fault) => Err(Refusal::OfArc(fault)),
-        None => Ok(arc_cost(&sheet, arc)),
+        None => Ok(arc_cost(sheet, arc)),
     }
 }
 
@@ -90,10 +91,10 @@ pub fn arc_cost(sheet: &Sheet, arc: Arc) -> u64 {
     if start == end {
         return 0;
     }
-    let sum: u128 = payments(arc.option, record, start, end - start)
+    let sum: u128 = payments(arc.option, record, [start, end], sheet.horizon)
         .map(|payment| payment.value(sheet.rate))
         .sum();
-    u64::try_from(sum).expect("249 payments of about 10^13 at most")
+    u64::try_from(sum).expect("250 payments of about 10^13 at most")
 }
 
 /// An amount with its rates, and how many steps of each kind bring it from year 0 to its year.
@@ -105,38 +106,48 @@ pub struct Payment {
     pub service_steps: i64,
 }
 
-/// The payments of an arc of length 1 or more of an option with this record.
+/// The payments of an option with this record, kept from a start year to a later end year.
 pub fn payments(
     option: u64,
     record: &Record,
-    start: i64,
-    length: i64,
+    [start, end]: [i64; 2],
+    horizon: i64,
 ) -> impl Iterator<Item = Payment> + '_ {
-    let investment = Payment {
-        amount: record.investment,
-        inflation: record.investment_inflation,
-        ageing: 0,
-        plain_steps: start,
-        service_steps: 0,
-    };
+    let length = end - start;
+    let investment = once(record.investment, record.investment_inflation, start);
     let used = &record.overhauls[..record.overhaul_count as usize];
     let overhauls = used
         .iter()
         .filter(move |overhaul| overhaul.age < length)
-        .map(move |overhaul| Payment {
-            amount: overhaul.amount,
-            inflation: record.overhaul_inflation,
-            ageing: 0,
-            plain_steps: start + overhaul.age,
-            service_steps: 0,
-        });
+        .map(move |due| once(due.amount, record.overhaul_inflation, start + due.age));
     let yearly = (1..=length).flat_map(move |k| {
         [
             yearly(&record.maintenance, [start, k]),
             yearly(&record.electricity, electricity_steps(option, start, k)),
         ]
     });
-    iter::once(investment).chain(overhauls).chain(yearly)
+    iter::once(investment)
+        .chain(overhauls)
+        .chain(yearly)
+        .chain(removal(option, record, end, horizon))
+}
+
+/// Paid in one year.
+fn once(amount: i64, inflation: i64, year: i64) -> Payment {
+    Payment {
+        amount,
+        inflation,
+        ageing: 0,
+        plain_steps: year,
+        service_steps: 0,
+    }
+}
+
+/// What a renovation or a replacement of positive length that ends before the horizon pays in its
+/// end year.
+pub fn removal(option: u64, record: &Record, end: i64, horizon: i64) -> Option<Payment> {
+    let paid = option != MAINTAIN && end < horizon;
+    paid.then(|| once(record.removal, record.removal_inflation, end))
 }
 
 fn yearly(flow: &Flow, [plain_steps, service_steps]: [i64; 2]) -> Payment {
@@ -200,18 +211,16 @@ pub fn up(dividend: u128, divisor: u128) -> u128 {
 #[cfg(test)]
 mod tests {
     use super::*;
-    use crate::cases::{paper_sheet, same_motors_sheet, steady_motors_sheet};
+    use crate::cases::*;
+    use crate::check::checked;
     use crate::sheet::*;
 
-    fn lives(option: usize, shortest: i64, longest: i64) -> [(Field, i64); 2] {
-        [
-            (of_option(option, SHORTEST), shortest),
-            (of_option(option, LONGEST), longest),
-        ]
+    fn lives(sheet: &mut [u8], option: usize, shortest: i64, longest: i64) {
+        write_all_in(sheet, option, &[(SHORTEST, shortest), (LONGEST, longest)]);
     }
 
     fn cost_on(sheet: &[u8], option: u64, start: u64, end: u64) -> Result<u64, Refusal> {
-        cost(sheet, Arc { option, start, end })
+        cost(&checked(sheet), Arc { option, start, end })
     }
 
     fn assert_refused(sheet: &[u8], arcs: &[(u64, u64, u64)], fault: Fault) {
@@ -269,17 +278,17 @@ mod tests {
     /// The sheet of cases 6 to 8, without the overhaul.
     fn case_sheet() -> Vec<u8> {
         let mut sheet = with_head(3, 40_000);
-        write_all(&mut sheet, &lives(2, 1, 2));
-        write(&mut sheet, of_option(2, INVESTMENT), 1);
-        write(&mut sheet, of_option(2, MAINTENANCE), 1);
+        lives(&mut sheet, 2, 1, 2);
+        write_in(&mut sheet, 2, INVESTMENT, 1);
+        write_in(&mut sheet, 2, MAINTENANCE, 1);
         sheet
     }
 
     fn case_sheet_with_overhaul() -> Vec<u8> {
         let mut sheet = case_sheet();
-        write(&mut sheet, of_option(2, OVERHAUL_COUNT), 1);
-        write(&mut sheet, of_option(2, overhaul_age(0)), 1);
-        write(&mut sheet, of_option(2, overhaul_amount(0)), 1);
+        write_in(&mut sheet, 2, OVERHAUL_COUNT, 1);
+        write_in(&mut sheet, 2, overhaul_age(0), 1);
+        write_in(&mut sheet, 2, overhaul_amount(0), 1);
         sheet
     }
 
@@ -326,11 +335,8 @@ mod tests {
             (overhaul_age(0), 1),
             (overhaul_amount(0), 1_000_000),
         ];
-        write_all(&mut sheet, &lives(1, 1, 2));
-        write_all(
-            &mut sheet,
-            &fields.map(|(inner, value)| (of_option(1, inner), value)),
-        );
+        lives(&mut sheet, 1, 1, 2);
+        write_all_in(&mut sheet, 1, &fields);
         // Investment, maintenance, electricity by two steps in service; then the overhaul and the
         // second year, its electricity by three.
         let one_year = 10_000 + 810_000 + 98_010_000;
@@ -360,8 +366,8 @@ mod tests {
     fn its_maintenance_ages_from_its_start() {
         let mut sheet = same_motors_sheet();
         for option in [1, 2] {
-            write(&mut sheet, of_option(option, MAINTENANCE), 1);
-            write(&mut sheet, of_option(option, MAINTENANCE_AGEING), 20_000);
+            write_in(&mut sheet, option, MAINTENANCE, 1);
+            write_in(&mut sheet, option, MAINTENANCE_AGEING, 20_000);
         }
         assert_eq!(cost_on(&sheet, 1, 1, 2), Ok(9_432 + 9_621));
         assert_eq!(cost_on(&sheet, 1, 1, 3), Ok(18_683 + 19_058));
@@ -379,11 +385,74 @@ mod tests {
         assert_eq!(cost_on(&sheet, 2, 1, 2), Ok(8_000_000_000_000));
     }
 
+    // 12 and 28 as in version 1, and 3 for each of 0 to 2 and 0 to 3, which end before year 4.
+    #[test]
+    fn case_12_arcs_with_removal() {
+        let sheet = case_12_with_removal();
+        for (start, end, cost) in [
+            (0, 1, 140_000),
+            (0, 2, 150_000),
+            (0, 3, 310_000),
+            (1, 4, 280_000),
+            (2, 4, 120_000),
+            (3, 4, 110_000),
+        ] {
+            assert_eq!(cost_on(&sheet, 2, start, end), Ok(cost));
+        }
+    }
+
+    // 10,000 × 1.01 / 1.04 is 9,711.5, then 9,712 × 1.01 / 1.04 is 9,431.8, then 9,159.9; and
+    // 20,000 × 0.99 / 1.04 is 19,038.5, then 18,123.9, then 17,252.7.
+    #[test]
+    fn removals_in_their_end_year_with_their_own_rates() {
+        let sheet = three_removals();
+        for (option, start, end, cost) in [
+            (0, 0, 1, 0),
+            (0, 0, 2, 0),
+            (1, 0, 1, 9_712),
+            (1, 0, 2, 9_432),
+            (1, 1, 2, 9_432),
+            (1, 1, 3, 9_160),
+            (1, 2, 3, 9_160),
+            (1, 2, 4, 0),
+            (1, 3, 4, 0),
+            (2, 0, 1, 19_039),
+            (2, 1, 2, 18_124),
+            (2, 1, 3, 17_253),
+            (2, 2, 3, 17_253),
+            (2, 2, 4, 0),
+            (2, 3, 4, 0),
+        ] {
+            assert_eq!(cost_on(&sheet, option, start, end), Ok(cost));
+        }
+        assert_eq!(cost_on(&sheet, 0, 0, 0), Ok(0));
+        for year in 0..=4 {
+            assert_eq!(cost_on(&sheet, 1, year, year), Ok(0));
+        }
+    }
+
+    // The records differ, and the lives of the next one stand where version 2 has a removal.
+    #[test]
+    fn version_1_pays_no_removal() {
+        let sheet = paper_sheet();
+        let zero = as_version_2(&sheet);
+        for (option, start, end) in [(0, 0, 15), (1, 7, 30), (1, 10, 40), (2, 0, 60), (2, 7, 60)] {
+            let cost = cost_on(&sheet, option, start, end);
+            assert!(cost.is_ok());
+            assert_eq!(cost_on(&zero, option, start, end), cost);
+        }
+        let mut sheet = with_head(4, 0);
+        (0..OPTIONS).for_each(|option| lives(&mut sheet, option, 1, 2));
+        for (option, start, end) in [(0, 0, 1), (1, 0, 1), (1, 1, 3), (2, 0, 1), (2, 1, 2)] {
+            assert_eq!(cost_on(&sheet, option, start, end), Ok(0));
+        }
+    }
+
     #[test]
     fn length_0_costs_nothing_and_needs_no_lives() {
         let mut sheet = with_head(3, 40_000);
         for option in 0..OPTIONS {
-            write(&mut sheet, of_option(option, INVESTMENT), 1);
+            write_in(&mut sheet, option, INVESTMENT, 1);
         }
         assert_eq!(cost_on(&sheet, 0, 0, 0), Ok(0));
         for year in 0..=3 {
@@ -404,7 +473,7 @@ mod tests {
         let most = u64::MAX;
         let mut sheet = with_head(9, 0);
         for option in 0..OPTIONS {
-            write_all(&mut sheet, &lives(option, 2, 3));
+            lives(&mut sheet, option, 2, 3);
         }
         for option in 0..3 {
             assert_eq!(cost_on(&sheet, option, 0, 2), Ok(0));

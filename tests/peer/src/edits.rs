@@ -30,7 +30,7 @@ pub fn edits_for(rule: u64, sheet: &[u8], option: usize) -> Vec<Edit> {
         3 => edits(HORIZON, around(&[0, 300], &[256, 557])).collect(),
         4 => edits(RATE, around(&[0, 200_000], &[1 << 24, 1 << 31])).collect(),
         5 => life_edits(sheet, option),
-        6 => amount_edits(option),
+        6 => amount_edits(sheet, option),
         7 => inflation_edits(sheet, option),
         8 => ageing_edits(sheet, option),
         9 => overhaul_edits(sheet, option),
@@ -46,8 +46,7 @@ fn mark_and_version_edits() -> Vec<Edit> {
 }
 
 fn life_edits(sheet: &[u8], option: usize) -> Vec<Edit> {
-    let shortest = of_option(option, SHORTEST);
-    let longest = of_option(option, LONGEST);
+    let [shortest, longest] = [SHORTEST, LONGEST].map(|inner| of_option(sheet, option, inner));
     let of_shortest = around(&[0, 120, unsigned(sheet, longest)], &[]);
     let of_longest = around(&[0, 120, unsigned(sheet, shortest)], &[]);
     edits(shortest, of_shortest)
@@ -60,26 +59,44 @@ fn amount_values() -> Vec<i64> {
     around(&[1_000_000_000], &[0, 1 << 31, (1 << 32) - 1])
 }
 
-fn amount_edits(option: usize) -> Vec<Edit> {
-    [INVESTMENT, MAINTENANCE, ELECTRICITY]
-        .into_iter()
-        .flat_map(|inner| edits(of_option(option, inner), amount_values()))
+/// For those of the fields that the records have.
+fn edits_of(sheet: &[u8], option: usize, inner: &[Field], values: &[i64]) -> Vec<Edit> {
+    inner
+        .iter()
+        .filter(|&&inner| Layout::of(sheet).has(inner))
+        .flat_map(|&inner| edits(of_option(sheet, option, inner), values.to_vec()))
         .collect()
 }
 
-fn inflation_edits(sheet: &[u8], option: usize) -> Vec<Edit> {
+fn amount_edits(sheet: &[u8], option: usize) -> Vec<Edit> {
+    let inner = [INVESTMENT, MAINTENANCE, ELECTRICITY, REMOVAL];
+    edits_of(sheet, option, &inner, &amount_values())
+}
+
+/// The limits of an inflation, and the ends of its field.
+fn inflation_values(sheet: &[u8]) -> Vec<i64> {
     let limits = [-1_000_000, -100_000, 0, unsigned(sheet, RATE)];
     let ends = [i64::from(i32::MIN), i64::from(i32::MAX)];
+    around(&limits, &ends)
+}
+
+fn inflation_edits(sheet: &[u8], option: usize) -> Vec<Edit> {
     let inner = [
         INVESTMENT_INFLATION,
         MAINTENANCE_INFLATION,
         ELECTRICITY_INFLATION,
         OVERHAUL_INFLATION,
+        REMOVAL_INFLATION,
     ];
-    inner
-        .into_iter()
-        .flat_map(|inner| edits(of_option(option, inner), around(&limits, &ends)))
-        .collect()
+    edits_of(sheet, option, &inner, &inflation_values(sheet))
+}
+
+/// Those of rules 6 and 7 that are about a removal.
+pub fn removal_edits(sheet: &[u8], option: usize) -> Vec<Edit> {
+    let mut list = edits_of(sheet, option, &[REMOVAL], &amount_values());
+    let inflations = inflation_values(sheet);
+    list.extend(edits_of(sheet, option, &[REMOVAL_INFLATION], &inflations));
+    list
 }
 
 /// Both factors of rule 8: the ageing for the inflation there is, and the other way round.
@@ -87,7 +104,7 @@ fn ageing_edits(sheet: &[u8], option: usize) -> Vec<Edit> {
     let rate = unsigned(sheet, RATE);
     let mut list = Vec::new();
     for flow in FLOWS {
-        let [_, inflation, ageing] = flow.map(|inner| of_option(option, inner));
+        let [_, inflation, ageing] = flow.map(|inner| of_option(sheet, option, inner));
         let largest_ageing = largest_partner(rate, signed(sheet, inflation));
         let largest_inflation = largest_partner(rate, unsigned(sheet, ageing));
         let ends = [0, 1 << 31, (1 << 32) - 1_000_000, (1 << 32) - 1];
@@ -98,28 +115,28 @@ fn ageing_edits(sheet: &[u8], option: usize) -> Vec<Edit> {
 }
 
 fn overhaul_edits(sheet: &[u8], option: usize) -> Vec<Edit> {
-    let count = of_option(option, OVERHAUL_COUNT);
+    let count = of_option(sheet, option, OVERHAUL_COUNT);
     let used = OVERHAULS.min(unsigned(sheet, count) as usize);
     let mut list: Vec<Edit> = edits(count, (0..10).chain([128, 255]).collect()).collect();
     for entry in 0..used {
         list.extend(edits(
-            of_option(option, overhaul_age(entry)),
+            of_option(sheet, option, overhaul_age(entry)),
             age_values(sheet, option, entry),
         ));
         list.extend(edits(
-            of_option(option, overhaul_amount(entry)),
+            of_option(sheet, option, overhaul_amount(entry)),
             amount_values(),
         ));
     }
     for byte in (used..OVERHAULS).flat_map(overhaul_bytes) {
-        list.extend(edits(of_option(option, byte), vec![1, 128, 255]));
+        list.extend(edits(of_option(sheet, option, byte), vec![1, 128, 255]));
     }
     list
 }
 
 /// The limits of an age, and the ages before and after it.
 fn age_values(sheet: &[u8], option: usize, entry: usize) -> Vec<i64> {
-    let age_of = |entry| unsigned(sheet, of_option(option, overhaul_age(entry)));
+    let age_of = |entry| unsigned_in(sheet, option, overhaul_age(entry));
     let before = if entry > 0 { age_of(entry - 1) } else { 0 };
     let after = if entry + 1 < OVERHAULS {
         age_of(entry + 1)

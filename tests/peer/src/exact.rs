@@ -12,6 +12,7 @@ use crate::sheet::{Flow, Record, Sheet, OPTIONS};
 
 const UNITS: u64 = 10_000;
 const MILLION: u64 = 1_000_000;
+const MAINTAIN: usize = 0;
 const RENOVATE: usize = 1;
 
 /// An error if document 02 does not allow the total that is printed for an accepted plan.
@@ -42,12 +43,13 @@ pub fn judge_cost(sheet: &[u8], arc: Arc, cost: u64) -> Result<(), String> {
 
 /// What a comparison says of so many totals that it judged.
 pub fn totals_judged(count: u64) -> String {
-    format!("all {count} totals, up to T 300, from 0 to (5T² + 3T)/2 units above their exact value")
+    format!("all {count} totals, up to T 300, from 0 to 3T² + T units above their exact value")
 }
 
 pub struct Exact {
     /// The years in which the arc or the chain starts and ends.
-    years: [u64; 2],
+    years: [i64; 2],
+    horizon: i64,
     numerator: Natural,
     denominator: Natural,
 }
@@ -61,7 +63,7 @@ impl Exact {
                 walk.keep(option, end - start);
             }
         }
-        walk.from(0, sheet.horizon as u64)
+        walk.from(0)
     }
 
     /// The arc is without fault, and of length 1 or more.
@@ -72,7 +74,7 @@ impl Exact {
             walk.next_year(option);
         }
         walk.keep(option, (arc.end - arc.start) as i64);
-        walk.from(arc.start, arc.end)
+        walk.from(arc.start as i64)
     }
 
     /// What is wrong with a figure that is printed: by document 02 it is never below the exact
@@ -93,14 +95,21 @@ impl Exact {
         self.numerator.times(2) > other.doubled_with_allowance()
     }
 
-    /// Twice the numerator of the value and the allowance: (5u² + 3u − 5t² − 3t)/2 units from year
-    /// t to u, so (5T² + 3T)/2 for a chain.
+    /// Twice the numerator of the value and the allowance, which is half of what is allowed up to
+    /// the end without that up to the start: 3T² + T units for a chain.
     fn doubled_with_allowance(&self) -> Natural {
-        let [start, end] = self.years.map(|year| 5 * year * year + 3 * year);
+        let [start, end] = self.years.map(|year| allowed(year, self.horizon));
         let mut sum = self.numerator.times(2);
         sum.add_times(&self.denominator, end - start);
         sum
     }
+}
+
+/// Up to a year, in halves of a unit: 6y² + 4y, and 6T² + 2T at the horizon, where no removal is
+/// paid.
+fn allowed(year: i64, horizon: i64) -> u64 {
+    let halves = 6 * year * year + if year < horizon { 4 } else { 2 } * year;
+    halves as u64
 }
 
 fn factor(rate: i64) -> u64 {
@@ -146,13 +155,15 @@ fn units(amount: i64) -> u64 {
 }
 
 /// What 1 of each payment of an option becomes up to the year in which the option starts, and up to
-/// that of an overhaul: by plain steps. But electricity of renovate takes in-service steps from
-/// year 0, as renovating renews the building, while the motors go on ageing.
+/// that of an overhaul or a removal: by plain steps. But electricity of renovate takes in-service
+/// steps from year 0, as renovating renews the building, while the motors go on ageing.
 struct Before {
     investment: Moving,
     maintenance: Moving,
     electricity: Moving,
     overhaul: Moving,
+    /// None if the amount is 0.
+    removal: Option<Moving>,
 }
 
 impl Before {
@@ -166,6 +177,7 @@ impl Before {
                 _ => Moving::plainly(electricity.inflation),
             },
             overhaul: Moving::plainly(record.overhaul_inflation),
+            removal: (record.removal > 0).then(|| Moving::plainly(record.removal_inflation)),
         }
     }
 
@@ -174,11 +186,14 @@ impl Before {
         self.maintenance.next_year();
         self.electricity.next_year();
         self.overhaul.next_year();
+        self.removal.iter_mut().for_each(Moving::next_year);
     }
 }
 
 /// The value of the arcs up to the year that is reached.
 struct Walk<'a> {
+    year: i64,
+    horizon: i64,
     records: &'a [Record; OPTIONS],
     before: [Before; OPTIONS],
     value: Natural,
@@ -190,6 +205,8 @@ struct Walk<'a> {
 impl Walk<'_> {
     fn on(sheet: &Sheet) -> Walk<'_> {
         Walk {
+            year: 0,
+            horizon: sheet.horizon,
             records: &sheet.records,
             before: [0, 1, 2].map(|option| Before::of(option, &sheet.records[option])),
             value: Natural::zero(),
@@ -198,9 +215,10 @@ impl Walk<'_> {
         }
     }
 
-    fn from(self, start: u64, end: u64) -> Exact {
+    fn from(self, start: i64) -> Exact {
         Exact {
-            years: [start, end],
+            years: [start, self.year],
+            horizon: self.horizon,
             numerator: self.value,
             denominator: self.denominator,
         }
@@ -224,13 +242,24 @@ impl Walk<'_> {
                 self.overhaul(option, age);
             }
         }
+        self.removal(option);
     }
 
     /// An option before the present one does not come again, so its payments stay behind.
     fn next_year(&mut self, option: usize) {
+        self.year += 1;
         self.value.multiply(self.each_year);
         self.denominator.multiply(self.each_year);
         self.before[option..].iter_mut().for_each(Before::next_year);
+    }
+
+    /// What is paid at the end of a renovation or replacement, unless that is the horizon.
+    fn removal(&mut self, option: usize) {
+        let paid = option != MAINTAIN && self.year < self.horizon;
+        if let Some(before) = self.before[option].removal.as_ref().filter(|_| paid) {
+            let amount = units(self.records[option].removal);
+            self.value.add_times(&before.numerator, amount);
+        }
     }
 
     fn overhaul(&mut self, option: usize, age: i64) {
@@ -246,7 +275,7 @@ impl Walk<'_> {
 #[cfg(test)]
 mod tests {
     use super::*;
-    use crate::cases::{case_12, paper_sheet, same_motors_sheet};
+    use crate::cases::*;
     use crate::check::checked;
     use crate::sheet::*;
 
@@ -275,7 +304,7 @@ mod tests {
         let mut sheet = with_head(2, 40_000);
         for &option in options {
             for (inner, value) in fields {
-                write(&mut sheet, of_option(option, inner), value);
+                write_in(&mut sheet, option, inner, value);
             }
         }
         sheet
@@ -312,7 +341,7 @@ mod tests {
     fn a_renovation_with_old_motors() {
         let mut sheet = two_years(&[0, 1, 2]);
         for option in 0..OPTIONS {
-            write(&mut sheet, of_option(option, ELECTRICITY_AGEING), 20_000);
+            write_in(&mut sheet, option, ELECTRICITY_AGEING, 20_000);
         }
         let million: u128 = 1_000_000;
         let year = million * 1_040_000;
@@ -332,12 +361,47 @@ mod tests {
         }
     }
 
+    // The removals of the three years before T, over (10^6 × 1,040,000)^3 up to year 3.
+    #[test]
+    fn removals_of_an_arc_and_of_a_chain() {
+        let million: u128 = 1_000_000;
+        let [year, renovated, replaced] = [1_040_000, 1_010_000, 990_000].map(|of| million * of);
+        let sheet = checked(&three_removals()).expect("a sheet");
+        let of_arc = |option, start, end| Exact::of_arc(&sheet, Arc { option, start, end });
+        for (option, start, end, paid) in [
+            (0, 0, 1, 0),
+            (0, 0, 2, 0),
+            (1, 1, 2, renovated * renovated),
+            (1, 0, 2, renovated * renovated),
+            (2, 1, 2, 2 * replaced * replaced),
+            (2, 2, 4, 0),
+            (1, 2, 4, 0),
+        ] {
+            let value = of_arc(option, start, end);
+            assert_eq!(value.numerator, (10_000 * paid).into());
+        }
+        let value = exact(&three_removals(), 0, 1, &[2, 3, 4]);
+        let paid = [(renovated, 1), (replaced, 2), (replaced, 3)];
+        let mut expected = Natural::zero();
+        for (amount, (each_year, years)) in [1, 2, 2].into_iter().zip(paid) {
+            let mut term = Natural::one().times(10_000 * amount);
+            (0..4).for_each(|at| term.multiply(if at < years { each_year } else { year } as u64));
+            expected.add(&term);
+        }
+        assert_eq!(value.numerator, expected);
+    }
+
     // Electricity of 1 in year 2 is 10,000 × 1.02² / 1.04² = 9,619.08 units with old motors, and
-    // 10,000 × 1.02 / 1.04² = 9,430.47 with new ones. (5 × 2² + 3 × 2 − 5 − 3)/2 is 9.
+    // 10,000 × 1.02 / 1.04² = 9,430.47 with new ones. Half of 6 × 2² + 4 × 2 − 6 − 4 is 11, and in
+    // year 3, which is T, half of 6 × 3² + 2 × 3 − 6 × 2² − 4 × 2 is 14.
     #[test]
     fn the_limits_of_a_cost() {
-        for (option, least, most) in [(1, 9_620, 9_628), (2, 9_431, 9_439)] {
-            let (start, end) = (1, 2);
+        for (option, start, end, least, most) in [
+            (1, 1, 2, 9_620, 9_630),
+            (2, 1, 2, 9_431, 9_441),
+            (1, 2, 3, 9_435, 9_448),
+            (2, 2, 3, 9_068, 9_081),
+        ] {
             let arc = Arc { option, start, end };
             let judge = |cost| judge_cost(&same_motors_sheet(), arc, cost).is_ok();
             assert!(!judge(least - 1) && judge(least));
@@ -345,15 +409,26 @@ mod tests {
         }
     }
 
-    // Nothing is rounded: the total is the exact value. (5 × 4² + 3 × 4)/2 is 46.
+    // From year 0 to 1 the allowance is 5, to 2 it is 16 and to 4, which is T, 52.
+    #[test]
+    fn allowances_of_arcs_add_up() {
+        let allowances = [0, 1, 2, 3, 4].map(|year| allowed(year, 4) / 2);
+        assert_eq!(allowances, [0, 5, 16, 33, 52]);
+        assert_eq!(allowed(4, 5), 6 * 16 + 4 * 4);
+        assert_eq!(allowed(300, 300), 2 * (3 * 90_000 + 300));
+    }
+
+    // Nothing is rounded: the total is the exact value. 3 × 4² + 4 is 52.
     #[test]
     fn the_limits_of_a_total() {
-        let value = exact(&case_12(), 0, 0, &[2, 4]);
-        assert_eq!(value.fault(239_999), Some("is below the exact value"));
-        assert_eq!(value.fault(240_000), None);
-        assert_eq!(value.fault(240_046), None);
-        let above = "is above the exact value by more than the allowance";
-        assert_eq!(value.fault(240_047), Some(above));
+        for (sheet, total) in [(case_12(), 240_000), (case_12_with_removal(), 270_000)] {
+            let value = exact(&sheet, 0, 0, &[2, 4]);
+            assert_eq!(value.fault(total - 1), Some("is below the exact value"));
+            assert_eq!(value.fault(total), None);
+            assert_eq!(value.fault(total + 52), None);
+            let above = "is above the exact value by more than the allowance";
+            assert_eq!(value.fault(total + 53), Some(above));
+        }
     }
 
     // T 1, one payment of 1 in year 0 and one of 1 / 1.04: 19,615.38 units; the allowance is 4.
@@ -366,7 +441,7 @@ mod tests {
             (INVESTMENT, 1),
             (MAINTENANCE, 1),
         ] {
-            write(&mut sheet, of_option(2, inner), value);
+            write_in(&mut sheet, 2, inner, value);
         }
         let value = exact(&sheet, 0, 0, &[1]);
         for (total, holds) in [
@@ -379,7 +454,7 @@ mod tests {
         }
     }
 
-    // Chains of case 12 that cost 24 and 34; then values 46 and 47 units above that of the first.
+    // Chains of case 12 that cost 24 and 34; then values 52 and 53 units above that of the first.
     #[test]
     fn the_limit_of_a_loss() {
         let [least, other] = [&[2, 4][..], &[1, 2, 4]].map(|ends| exact(&case_12(), 0, 0, ends));
@@ -391,8 +466,8 @@ mod tests {
             value.numerator.add_times(&least.denominator, units);
             value
         };
-        assert!(!moved(46).is_far_above(&least));
-        assert!(moved(47).is_far_above(&least));
+        assert!(!moved(52).is_far_above(&least));
+        assert!(moved(53).is_far_above(&least));
     }
 
     // By fractions, worked out apart: 38,979,203,928.8765 units.

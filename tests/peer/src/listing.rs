@@ -148,6 +148,14 @@ mod tests {
         assert_eq!(totals, expected);
     }
 
+    // 3 more for each replacement that ends before year 4.
+    #[test]
+    fn case_12_with_removal_of_3() {
+        let choice = listed(&sheet(case_12_with_removal())).choice;
+        let chosen = choice.map(|choice| (years(&choice.chain), choice.total));
+        assert_eq!(chosen, Some((vec![0, 0, 2, 4], 270_000)));
+    }
+
     #[test]
     fn cases_9_to_12() {
         let chosen = |bytes| {

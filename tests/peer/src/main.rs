@@ -45,6 +45,7 @@ mod plans;
 mod price;
 mod quotients;
 mod random;
+mod removals;
 mod report;
 mod rises;
 mod sheet;

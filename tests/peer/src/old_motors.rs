@@ -13,7 +13,7 @@ use crate::sheet::Sheet;
 /// less than new ones, so where a payment differs, the sum does.
 fn show(sheet: &Sheet, start: i64, end: i64, figure: impl Fn(&Payment) -> u128) -> bool {
     let record = &sheet.records[RENOVATE as usize];
-    let as_option = |option| payments(option, record, start, end - start);
+    let as_option = |option| payments(option, record, [start, end], sheet.horizon);
     as_option(RENOVATE)
         .zip(as_option(REPLACE))
         .filter(|(old, new)| old.ageing > 0 && old.plain_steps < new.plain_steps)
@@ -78,10 +78,10 @@ mod tests {
         for (start, end) in [(1, 2), (1, 3), (2, 3)] {
             assert!(arc_shows(&sheet, 1, start, end));
         }
-        write(&mut sheet, of_option(1, ELECTRICITY), 0);
+        write_in(&mut sheet, 1, ELECTRICITY, 0);
         assert!(!arc_shows(&sheet, 1, 1, 3));
         let mut sheet = same_motors_sheet();
-        write(&mut sheet, of_option(1, ELECTRICITY_AGEING), 0);
+        write_in(&mut sheet, 1, ELECTRICITY_AGEING, 0);
         assert!(!arc_shows(&sheet, 1, 1, 3));
     }
 
@@ -89,11 +89,11 @@ mod tests {
     fn budget_shows(horizon: i64, i: i64, ageing: i64) -> [bool; 2] {
         let mut sheet = with_head(horizon, 40_000);
         for (option, life) in [(0, i), (1, 1)] {
-            write(&mut sheet, of_option(option, SHORTEST), life);
-            write(&mut sheet, of_option(option, LONGEST), life);
+            write_in(&mut sheet, option, SHORTEST, life);
+            write_in(&mut sheet, option, LONGEST, life);
         }
-        write(&mut sheet, of_option(1, ELECTRICITY), 1);
-        write(&mut sheet, of_option(1, ELECTRICITY_AGEING), ageing);
+        write_in(&mut sheet, 1, ELECTRICITY, 1);
+        write_in(&mut sheet, 1, ELECTRICITY_AGEING, ageing);
         let (j, ends) = (horizon, Vec::new());
         let plan = written(&Chain { i, j, ends }, 0);
         let priced = Priced::of(&sheet, &plan).expect("a plan");

@@ -195,6 +195,34 @@ mod tests {
         assert_eq!(planned_on(&case_12()).tails, tails);
     }
 
+    // Two replacements of two years cost 15 and 12; one year costs 14, or 11 up to year 4.
+    #[test]
+    fn case_12_with_removal_of_3() {
+        let sheet = case_12_with_removal();
+        assert_chain(&sheet, 0, 0, &[2, 4], 270_000);
+        let tails = [270_000, 260_000, 120_000, 110_000, 0].map(Some);
+        assert_eq!(planned_on(&sheet).tails, tails);
+    }
+
+    // Two years cost an overhaul of 1, and a removal costs 2.
+    #[test]
+    fn a_removal_puts_a_replacement_off() {
+        let mut sheet = lasting_sheet();
+        let ties = assert_chain(&sheet, 0, 0, &[2, 4], 40_000);
+        assert!(!ties.any());
+        write_in(&mut sheet, 2, REMOVAL, 0);
+        assert_chain(&sheet, 0, 0, &[1, 2, 3, 4], 0);
+    }
+
+    // Free: maintaining for two years and then renovating or replacing for two; the larger j.
+    #[test]
+    fn three_removals_that_are_not_paid() {
+        let ties = assert_chain(&three_removals(), 2, 4, &[], 0);
+        assert!(!ties.of_i && ties.of_j && !ties.of_ends);
+        let tails = [18_124, 17_253, 0, 0, 0].map(Some);
+        assert_eq!(planned_on(&three_removals()).tails, tails);
+    }
+
     // The chain is that of the paper's Tables 5 and 6.
     #[test]
     fn the_case_study_of_the_paper() {
@@ -234,8 +262,8 @@ mod tests {
     fn free_sheet() -> Vec<u8> {
         let mut sheet = with_head(7, 0);
         for (option, lives) in [[1, 3], [2, 2], [1, 2]].into_iter().enumerate() {
-            write(&mut sheet, of_option(option, SHORTEST), lives[0]);
-            write(&mut sheet, of_option(option, LONGEST), lives[1]);
+            write_in(&mut sheet, option, SHORTEST, lives[0]);
+            write_in(&mut sheet, option, LONGEST, lives[1]);
         }
         sheet
     }
@@ -245,11 +273,11 @@ mod tests {
         let mut sheet = free_sheet();
         let ties = assert_chain(&sheet, 3, 5, &[7], 0);
         assert!(ties.of_i && ties.of_j && ties.of_ends);
-        write(&mut sheet, of_option(0, LONGEST), 1);
+        write_in(&mut sheet, 0, LONGEST, 1);
         assert_chain(&sheet, 1, 3, &[5, 7], 0);
-        write(&mut sheet, of_option(1, INVESTMENT), 1);
+        write_in(&mut sheet, 1, INVESTMENT, 1);
         assert_chain(&sheet, 1, 1, &[3, 5, 7], 0);
-        write(&mut sheet, of_option(0, INVESTMENT), 1);
+        write_in(&mut sheet, 0, INVESTMENT, 1);
         let ties = assert_chain(&sheet, 0, 0, &[2, 4, 6, 7], 0);
         assert!(!ties.of_i && !ties.of_j && ties.of_ends);
     }

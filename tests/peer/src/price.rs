@@ -121,13 +121,13 @@ fn total(sheet: &Sheet, chain: &Chain) -> u64 {
         let [option, start, end] = [option as u64, start as u64, end as u64];
         u128::from(arc_cost(sheet, Arc { option, start, end }))
     });
-    u64::try_from(costs.sum::<u128>()).expect("900 payments of about 10^13 at most")
+    u64::try_from(costs.sum::<u128>()).expect("1,200 payments of about 10^13 at most")
 }
 
 #[cfg(test)]
 mod tests {
     use super::*;
-    use crate::cases::{case_11, case_12, paper_sheet};
+    use crate::cases::*;
     use crate::plan::written;
     use crate::sheet::*;
 
@@ -142,13 +142,6 @@ mod tests {
 
     fn refused<const N: usize>(faults: [Fault; N]) -> Result<u64, Refusal> {
         Err(Refusal::OfPlan(faults.into()))
-    }
-
-    /// A sheet with some fields of one option.
-    fn with_fields(sheet: &mut [u8], option: usize, fields: &[(Field, i64)]) {
-        for &(inner, value) in fields {
-            write(sheet, of_option(option, inner), value);
-        }
     }
 
     // Every year of service costs 1.
@@ -171,6 +164,31 @@ mod tests {
             answer(&price_of(&sheet, 0, 0, &[2, 4])).packed(),
             61_440_003
         );
+    }
+
+    // 3 for each replacement that ends before year 4.
+    #[test]
+    fn case_12_chains_with_removal() {
+        let sheet = case_12_with_removal();
+        assert_eq!(price_of(&sheet, 0, 0, &[2, 4]), Ok(270_000));
+        assert_eq!(price_of(&sheet, 0, 0, &[1, 2, 3, 4]), Ok(530_000));
+        assert_eq!(price_of(&sheet, 0, 0, &[1, 4]), Ok(420_000));
+    }
+
+    // What each arc costs is in cost.rs.
+    #[test]
+    fn removals_of_renovations_and_replacements() {
+        let sheet = three_removals();
+        for (i, j, ends, total) in [
+            (2, 4, &[][..], 0),
+            (2, 2, &[4], 0),
+            (1, 2, &[4], 9_432),
+            (1, 2, &[3, 4], 9_432 + 17_253),
+            (1, 1, &[2, 4], 18_124),
+            (0, 1, &[2, 3, 4], 9_712 + 18_124 + 17_253),
+        ] {
+            assert_eq!(price_of(&sheet, i, j, ends), Ok(total));
+        }
     }
 
     #[test]
@@ -200,7 +218,7 @@ mod tests {
     fn each_fault_of_a_length() {
         let mut sheet = with_head(6, 0);
         for option in 0..OPTIONS {
-            with_fields(&mut sheet, option, &[(SHORTEST, 2), (LONGEST, 3)]);
+            write_all_in(&mut sheet, option, &[(SHORTEST, 2), (LONGEST, 3)]);
         }
         for (i, j, ends) in [(3, 6, &[][..]), (2, 4, &[6]), (0, 0, &[3, 6]), (0, 3, &[6])] {
             assert_eq!(price_of(&sheet, i, j, ends), Ok(0));
@@ -252,12 +270,12 @@ mod tests {
     #[test]
     fn no_replacement() {
         let mut sheet = with_head(2, 0);
-        with_fields(
+        write_all_in(
             &mut sheet,
             1,
             &[(SHORTEST, 2), (LONGEST, 2), (ELECTRICITY, 1)],
         );
-        with_fields(&mut sheet, 0, &[(INVESTMENT, 9)]);
+        write_all_in(&mut sheet, 0, &[(INVESTMENT, 9)]);
         assert_eq!(price_of(&sheet, 0, 2, &[]), Ok(20_000));
     }
 

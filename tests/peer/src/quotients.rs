@@ -4,7 +4,7 @@
 use crate::cost::Arc;
 use crate::random::Random;
 use crate::sheet::*;
-use crate::valid::{largest_partner, FLOWS};
+use crate::valid::{largest_partner, some_layout, FLOWS};
 
 const UNITS: i64 = 10_000;
 const MILLION: i64 = 1_000_000;
@@ -12,8 +12,10 @@ const LARGEST_AMOUNT: i64 = 1_000_000_000;
 
 #[derive(Clone, Copy, Debug, PartialEq, Eq, PartialOrd, Ord)]
 pub enum Division {
-    /// That of a plain step.
+    /// That of a plain step, of an investment.
     Plain,
+    /// The same of a removal.
+    Removal,
     /// The first one in service, from the amount itself.
     Ageing,
     /// The same after a plain step that leaves no rest, so that the amount need not be a multiple
@@ -23,8 +25,9 @@ pub enum Division {
     Discount,
 }
 
-pub const DIVISIONS: [Division; 4] = [
+pub const DIVISIONS: [Division; 5] = [
     Division::Plain,
+    Division::Removal,
     Division::Ageing,
     Division::LaterAgeing,
     Division::Discount,
@@ -71,7 +74,7 @@ impl Factors {
     fn of(&self, division: Division) -> [i64; 3] {
         let shared = greatest_divisor(UNITS, self.discount).0;
         match division {
-            Division::Plain => [1, UNITS * self.growth, self.discount],
+            Division::Plain | Division::Removal => [1, UNITS * self.growth, self.discount],
             Division::Ageing => [1, UNITS * self.ageing, MILLION],
             Division::LaterAgeing => [
                 self.discount / shared,
@@ -94,6 +97,21 @@ impl Factors {
         };
         let last = LARGEST_AMOUNT / one;
         one * (first + period * random.near_an_end(0, (last - first) / period))
+    }
+
+    /// The fields of a payment whose division leaves the rest.
+    fn payment(&self, random: &mut Random, division: Division, rest: Rest) -> Vec<(Field, i64)> {
+        let amount = self.amount(random, division, rest);
+        let inflation = self.growth - MILLION;
+        match division {
+            Division::Plain => vec![(INVESTMENT, amount), (INVESTMENT_INFLATION, inflation)],
+            Division::Removal => vec![(REMOVAL, amount), (REMOVAL_INFLATION, inflation)],
+            _ => {
+                let [paid, grows, ages] = FLOWS[random.below(FLOWS.len())];
+                let ageing = self.ageing - MILLION;
+                vec![(paid, amount), (grows, inflation), (ages, ageing)]
+            }
+        }
     }
 }
 
@@ -120,21 +138,13 @@ pub struct Quotient {
 
 impl Quotient {
     fn draw(random: &mut Random, factors: &Factors, division: Division, rest: Rest) -> Quotient {
-        let amount = factors.amount(random, division, rest);
-        let mut sheet = with_head(2, factors.discount - MILLION);
-        let mut put = |inner, value| write(&mut sheet, of_option(2, inner), value);
-        put(SHORTEST, 1);
-        put(LONGEST, 1);
-        let inflation = factors.growth - MILLION;
-        if division == Division::Plain {
-            put(INVESTMENT, amount);
-            put(INVESTMENT_INFLATION, inflation);
-        } else {
-            let flow = FLOWS[random.below(FLOWS.len())];
-            put(flow[0], amount);
-            put(flow[1], inflation);
-            put(flow[2], factors.ageing - MILLION);
-        }
+        let layout = match division {
+            Division::Removal => VERSION_2,
+            _ => some_layout(random),
+        };
+        let mut sheet = layout.with_head(2, factors.discount - MILLION);
+        write_all_in(&mut sheet, 2, &[(SHORTEST, 1), (LONGEST, 1)]);
+        write_all_in(&mut sheet, 2, &factors.payment(random, division, rest));
         let start = u64::from([Division::Plain, Division::LaterAgeing].contains(&division));
         let arc = Arc {
             option: 2,
@@ -150,11 +160,14 @@ impl Quotient {
     }
 }
 
-/// One sheet for each division and rest at a discount rate.
+/// One sheet for each division and rest at a discount rate; the plain division is that of an
+/// investment or of a removal.
 pub fn quotients(random: &mut Random, rate: i64) -> Vec<Quotient> {
     let factors = Factors::draw(random, rate);
+    let not_drawn = [Division::Plain, Division::Removal][random.below(2)];
     DIVISIONS
         .iter()
+        .filter(|&&division| division != not_drawn)
         .flat_map(|&division| RESTS.map(|rest| (division, rest)))
         .map(|(division, rest)| Quotient::draw(random, &factors, division, rest))
         .collect()
@@ -163,6 +176,7 @@ pub fn quotients(random: &mut Random, rate: i64) -> Vec<Quotient> {
 #[cfg(test)]
 mod tests {
     use super::*;
+    use crate::check::checked;
     use crate::cost::{answer, cost};
     use crate::library;
 
@@ -183,20 +197,20 @@ mod tests {
     fn divided(rate: i64, of: &Quotient) -> [u128; 3] {
         let fields = match of.division {
             Division::Plain => [INVESTMENT, INVESTMENT_INFLATION, INVESTMENT_INFLATION],
-            _ => FLOWS[usize::from(unsigned(&of.sheet, of_option(2, ELECTRICITY)) > 0)],
+            Division::Removal => [REMOVAL, REMOVAL_INFLATION, REMOVAL_INFLATION],
+            _ => FLOWS[usize::from(unsigned_in(&of.sheet, 2, ELECTRICITY) > 0)],
         };
-        let [amount, inflation, ageing] = fields.map(|inner| of_option(2, inner));
-        let units = unsigned(&of.sheet, amount) as u128 * 10_000;
+        let [amount, inflation, ageing] = fields.map(|inner| signed_in(&of.sheet, 2, inner));
+        let units = amount as u128 * 10_000;
         let factor = |rate: i64| (1_000_000 + rate) as u128;
-        let growth = factor(signed(&of.sheet, inflation));
-        let ageing = factor(signed(&of.sheet, ageing));
+        let [growth, ageing] = [inflation, ageing].map(factor);
         let (discount, million) = (factor(rate), factor(0));
         let whole = |dividend: u128, divisor| {
             assert_eq!(dividend % divisor, 0);
             dividend / divisor
         };
         let (dividend, divisor) = match of.division {
-            Division::Plain => (units * growth, discount),
+            Division::Plain | Division::Removal => (units * growth, discount),
             Division::Ageing => (units * ageing, million),
             Division::LaterAgeing => (whole(units * growth, discount) * ageing, million),
             Division::Discount => (whole(units * ageing, million) * growth, discount),
@@ -212,7 +226,7 @@ mod tests {
             .find(|n| 10_000 % n == 0 && (MILLION + rate) % n == 0);
         let shared = shared.expect("1 is one") as u128;
         match division {
-            Division::Plain => shared,
+            Division::Plain | Division::Removal => shared,
             Division::Ageing => 10_000,
             Division::LaterAgeing => 10_000 / shared,
             Division::Discount => 1,
@@ -239,10 +253,10 @@ mod tests {
     fn the_library_costs_them_as_defined() {
         for (rate, quotient) in drawn() {
             let given = library::cost(&quotient.sheet, quotient.arc);
-            let defined = cost(&quotient.sheet, quotient.arc);
+            let defined = cost(&checked(&quotient.sheet), quotient.arc);
             assert!(defined.is_ok());
             assert_eq!(given, answer(defined).packed());
-            if [Division::Plain, Division::Discount].contains(&quotient.division) {
+            if ![Division::Ageing, Division::LaterAgeing].contains(&quotient.division) {
                 let [whole, _, _] = divided(rate, &quotient);
                 let more = u128::from(quotient.rest != Rest::None);
                 assert_eq!(u128::from(given / 256), whole + more);

@@ -5,7 +5,7 @@ use crate::plan::{written, Chain};
 use crate::quotients::{greatest_divisor, Rest, RESTS};
 use crate::random::Random;
 use crate::sheet::*;
-use crate::valid::FLOWS;
+use crate::valid::{some_layout, FLOWS};
 
 const MILLION: i64 = 1_000_000;
 /// The rests of amounts come again with every million; an amount has up to this many.
@@ -21,11 +21,13 @@ pub enum Rate {
     General,
     /// Of an investment in year 1, after general inflation.
     Own,
+    /// The same of a removal.
+    OfRemoval,
     /// In the second of two years, the first of which is a plain step.
     Ageing,
 }
 
-pub const RATES: [Rate; 3] = [Rate::General, Rate::Own, Rate::Ageing];
+pub const RATES: [Rate; 4] = [Rate::General, Rate::Own, Rate::OfRemoval, Rate::Ageing];
 
 pub struct Rise {
     pub rate: Rate,
@@ -57,11 +59,10 @@ fn amount(random: &mut Random, rate: i64, rest: Rest) -> i64 {
 }
 
 /// T 2, and a replacement each year, with one payment.
-fn sheet_with(fields: &[(Field, i64)]) -> Vec<u8> {
-    let mut sheet = with_head(2, 200_000);
-    for &(inner, value) in [(SHORTEST, 1), (LONGEST, 1)].iter().chain(fields) {
-        write(&mut sheet, of_option(2, inner), value);
-    }
+fn sheet_with(layout: Layout, fields: &[(Field, i64)]) -> Vec<u8> {
+    let mut sheet = layout.with_head(2, 200_000);
+    write_all_in(&mut sheet, 2, &[(SHORTEST, 1), (LONGEST, 1)]);
+    write_all_in(&mut sheet, 2, fields);
     sheet
 }
 
@@ -69,24 +70,32 @@ fn rise(random: &mut Random, rate: Rate, rest: Rest) -> Rise {
     let [flow, _, ageing] = FLOWS[random.below(FLOWS.len())];
     let drawn = match rate {
         Rate::General => drawn(random, 0, 50_000),
-        Rate::Own => drawn(random, -100_000, 200_000),
+        Rate::Own | Rate::OfRemoval => drawn(random, -100_000, 200_000),
         Rate::Ageing => drawn(random, 0, 200_000),
     };
     let amount = amount(random, drawn, rest);
-    let (general, sheet) = match rate {
-        Rate::General => (drawn, sheet_with(&[(flow, amount), (ageing, ONE_PER_CENT)])),
-        Rate::Own => {
-            let fields = [(INVESTMENT, amount), (INVESTMENT_INFLATION, drawn)];
-            (ONE_PER_CENT, sheet_with(&fields))
-        }
-        Rate::Ageing => (ONE_PER_CENT, sheet_with(&[(flow, amount), (ageing, drawn)])),
+    let (general, fields) = match rate {
+        Rate::General => (drawn, [(flow, amount), (ageing, ONE_PER_CENT)]),
+        Rate::Own => (
+            ONE_PER_CENT,
+            [(INVESTMENT, amount), (INVESTMENT_INFLATION, drawn)],
+        ),
+        Rate::OfRemoval => (
+            ONE_PER_CENT,
+            [(REMOVAL, amount), (REMOVAL_INFLATION, drawn)],
+        ),
+        Rate::Ageing => (ONE_PER_CENT, [(flow, amount), (ageing, drawn)]),
+    };
+    let layout = match rate {
+        Rate::OfRemoval => VERSION_2,
+        _ => some_layout(random),
     };
     let ends = vec![1, 2];
     Rise {
         rate,
         rest,
         general: general as u64,
-        sheet,
+        sheet: sheet_with(layout, &fields),
         plan: written(&Chain { i: 0, j: 0, ends }, random.next()),
     }
 }
@@ -105,9 +114,9 @@ mod tests {
     use crate::budget::{budget, Call, Priced};
 
     fn value(rise: &Rise, fields: &[Field]) -> i64 {
-        let values = fields
-            .iter()
-            .map(|&inner| signed(&rise.sheet, of_option(2, inner)));
+        let layout = Layout::of(&rise.sheet);
+        let there_are = fields.iter().filter(|&&inner| layout.has(inner));
+        let values = there_are.map(|&inner| signed_in(&rise.sheet, 2, inner));
         values.max().expect("a field")
     }
 
@@ -116,10 +125,11 @@ mod tests {
         let flows = [MAINTENANCE_AGEING, ELECTRICITY_AGEING];
         let rate = match rise.rate {
             Rate::General => rise.general as i64,
-            Rate::Own => signed(&rise.sheet, of_option(2, INVESTMENT_INFLATION)),
+            Rate::Own => signed_in(&rise.sheet, 2, INVESTMENT_INFLATION),
+            Rate::OfRemoval => signed_in(&rise.sheet, 2, REMOVAL_INFLATION),
             Rate::Ageing => value(rise, &flows),
         };
-        let amount = value(rise, &[INVESTMENT, MAINTENANCE, ELECTRICITY]);
+        let amount = value(rise, &[INVESTMENT, MAINTENANCE, ELECTRICITY, REMOVAL]);
         101 * i128::from(amount) * i128::from(MILLION + rate)
     }
 

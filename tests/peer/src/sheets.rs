@@ -50,8 +50,8 @@ fn shorten_life(random: &mut Random, sheet: &mut [u8], option: usize) {
     let shortest = random.within(1, 4);
     let longest = shortest + random.within(0, 6);
     let offered = i64::from(random.below(4) > 0);
-    write(sheet, of_option(option, SHORTEST), offered * shortest);
-    write(sheet, of_option(option, LONGEST), offered * longest);
+    write_in(sheet, option, SHORTEST, offered * shortest);
+    write_in(sheet, option, LONGEST, offered * longest);
 }
 
 /// A horizon of 120 to 300 years.
@@ -72,8 +72,8 @@ pub fn corner_sheet(random: &mut Random) -> Vec<u8> {
     let mut sheet = shaped_sheet(random, &shape);
     write(&mut sheet, HORIZON, 300);
     for option in 0..OPTIONS {
-        write(&mut sheet, of_option(option, SHORTEST), 1);
-        write(&mut sheet, of_option(option, LONGEST), 120);
+        write_in(&mut sheet, option, SHORTEST, 1);
+        write_in(&mut sheet, option, LONGEST, 120);
     }
     sheet
 }
@@ -92,13 +92,16 @@ pub fn steep_sheet(random: &mut Random) -> Vec<u8> {
     write(&mut sheet, RATE, rate);
     set_amounts(&mut sheet, || 1_000_000_000);
     for option in 0..OPTIONS {
-        write(&mut sheet, of_option(option, INVESTMENT_INFLATION), rate);
-        write(&mut sheet, of_option(option, OVERHAUL_INFLATION), rate);
+        write_in(&mut sheet, option, INVESTMENT_INFLATION, rate);
+        write_in(&mut sheet, option, OVERHAUL_INFLATION, rate);
+        if Layout::of(&sheet).has(REMOVAL) {
+            write_in(&mut sheet, option, REMOVAL_INFLATION, rate);
+        }
         for [_, inflation, ageing] in FLOWS {
             let grows = random.near_an_end(-100_000, rate);
             let ages = largest_partner(rate, grows).min(300_000);
-            write(&mut sheet, of_option(option, inflation), grows);
-            write(&mut sheet, of_option(option, ageing), ages);
+            write_in(&mut sheet, option, inflation, grows);
+            write_in(&mut sheet, option, ageing, ages);
         }
     }
     sheet
@@ -132,6 +135,49 @@ pub fn frequent_motors_sheet(random: &mut Random) -> Vec<u8> {
     sheet
 }
 
+/// A sheet of version 2 of up to 40 years, on which removals weigh.
+pub fn removal_sheet(random: &mut Random) -> Vec<u8> {
+    let sheet = [small_sheet, chained_sheet][random.below(2)](random);
+    with_removals(random, sheet)
+}
+
+/// The same with a horizon of up to 8 years.
+pub fn brief_removal_sheet(random: &mut Random) -> Vec<u8> {
+    let sheet = brief_sheet(random);
+    with_removals(random, sheet)
+}
+
+/// The same with every length to 120, T 300.
+pub fn corner_removal_sheet(random: &mut Random) -> Vec<u8> {
+    let sheet = corner_sheet(random);
+    with_removals(random, sheet)
+}
+
+/// The same with short lives.
+pub fn frequent_removal_sheet(random: &mut Random) -> Vec<u8> {
+    let sheet = frequent_sheet(random);
+    with_removals(random, sheet)
+}
+
+/// As version 2. No removal is 0, other amounts are small, and replacements last a year or longer.
+fn with_removals(random: &mut Random, sheet: Vec<u8>) -> Vec<u8> {
+    let mut sheet = match Layout::of(&sheet).has(REMOVAL) {
+        true => sheet,
+        false => as_version_2(&sheet),
+    };
+    let rate = unsigned(&sheet, RATE);
+    let longest = unsigned_in(&sheet, 2, LONGEST).max(random.within(2, 6));
+    write_all_in(&mut sheet, 2, &[(SHORTEST, 1), (LONGEST, longest)]);
+    set_amounts(&mut sheet, || random.within(0, 10_000));
+    for option in 0..OPTIONS {
+        let amount = random.near_an_end(1, 1_000_000_000);
+        let inflation = random.near_an_end(-100_000, rate);
+        let fields = [(REMOVAL, amount), (REMOVAL_INFLATION, inflation)];
+        write_all_in(&mut sheet, option, &fields);
+    }
+    sheet
+}
+
 /// Electricity of renovate ages as fast as check 8 allows, or a millionth less. An inflation of 0
 /// leaves an ageing of r, with which the limit is met; r − 2 is the highest that leaves one.
 fn age_motors(random: &mut Random, sheet: &mut [u8]) {
@@ -149,18 +195,19 @@ fn age_motors(random: &mut Random, sheet: &mut [u8]) {
         (ELECTRICITY_INFLATION, grows),
         (ELECTRICITY_AGEING, ages),
     ] {
-        write(sheet, of_option(1, inner), value);
+        write_in(sheet, 1, inner, value);
     }
 }
 
 /// Every rate of an option.
-const RATES: [Field; 6] = [
+const RATES: [Field; 7] = [
     INVESTMENT_INFLATION,
     MAINTENANCE_INFLATION,
     MAINTENANCE_AGEING,
     ELECTRICITY_INFLATION,
     ELECTRICITY_AGEING,
     OVERHAUL_INFLATION,
+    REMOVAL_INFLATION,
 ];
 
 /// Gives the sheet other payments, so that many of its chains have equal totals. Horizon, lives
@@ -185,40 +232,44 @@ pub fn make_ties(random: &mut Random, sheet: &mut [u8]) {
     }
 }
 
+/// Those of some fields that the records of the sheet have.
+fn those<const N: usize>(sheet: &[u8], fields: [Field; N]) -> impl Iterator<Item = Field> {
+    let layout = Layout::of(sheet);
+    fields.into_iter().filter(move |&inner| layout.has(inner))
+}
+
 fn clear_rates(sheet: &mut [u8]) {
     write(sheet, RATE, 0);
     for option in 0..OPTIONS {
-        for inner in RATES {
-            write(sheet, of_option(option, inner), 0);
+        for inner in those(sheet, RATES) {
+            write_in(sheet, option, inner, 0);
         }
     }
 }
 
 fn set_amounts(sheet: &mut [u8], mut amount: impl FnMut() -> i64) {
     for option in 0..OPTIONS {
-        let used = unsigned(sheet, of_option(option, OVERHAUL_COUNT)) as usize;
+        let used = unsigned_in(sheet, option, OVERHAUL_COUNT) as usize;
         let overhauls = (0..used).map(overhaul_amount);
-        for inner in [INVESTMENT, MAINTENANCE, ELECTRICITY]
-            .into_iter()
-            .chain(overhauls)
-        {
-            write(sheet, of_option(option, inner), amount());
+        let others = those(sheet, [INVESTMENT, MAINTENANCE, ELECTRICITY, REMOVAL]);
+        for inner in others.chain(overhauls) {
+            write_in(sheet, option, inner, amount());
         }
     }
 }
 
 fn charge_every_year(sheet: &mut [u8], amount: i64) {
     for option in 0..OPTIONS {
-        write(sheet, of_option(option, MAINTENANCE), amount);
+        write_in(sheet, option, MAINTENANCE, amount);
     }
 }
 
 /// Maintain and renovate get all of replace but its lives.
 fn share_payments(sheet: &mut [u8]) {
-    let from = of_option(2, INVESTMENT).at;
+    let from = of_option(sheet, 2, INVESTMENT).at;
     let payments = sheet[from..].to_vec();
     for option in 0..2 {
-        let at = of_option(option, INVESTMENT).at;
+        let at = of_option(sheet, option, INVESTMENT).at;
         sheet[at..at + payments.len()].copy_from_slice(&payments);
     }
 }
@@ -226,7 +277,9 @@ fn share_payments(sheet: &mut [u8]) {
 #[cfg(test)]
 mod tests {
     use super::*;
-    use crate::check::check;
+    use crate::check::{check, checked};
+    use crate::planner::planned;
+    use crate::removals::change_the_chain;
     use std::collections::BTreeSet;
 
     #[test]
@@ -244,6 +297,10 @@ mod tests {
             brief_motors_sheet,
             corner_motors_sheet,
             frequent_motors_sheet,
+            removal_sheet,
+            brief_removal_sheet,
+            corner_removal_sheet,
+            frequent_removal_sheet,
         ];
         for make in all {
             for _ in 0..1_000 {
@@ -255,6 +312,55 @@ mod tests {
         }
     }
 
+    /// How many sheets of a kind are of version 2, in hundredths.
+    fn of_version_2(make: fn(&mut Random) -> Vec<u8>) -> usize {
+        let mut random = Random(11);
+        let sheets = (0..1_000).map(|_| make(&mut random));
+        sheets
+            .filter(|sheet| Layout::of(sheet) == VERSION_2)
+            .count()
+            / 10
+    }
+
+    #[test]
+    fn both_versions_half_and_half() {
+        let all = [
+            valid_sheet,
+            small_sheet,
+            chained_sheet,
+            brief_sheet,
+            long_sheet,
+            corner_sheet,
+            frequent_sheet,
+            steep_sheet,
+            motors_sheet,
+        ];
+        for make in all {
+            assert!((45..=55).contains(&of_version_2(make)));
+        }
+        assert_eq!(of_version_2(removal_sheet), 100);
+    }
+
+    /// How many chains removals change, of a hundred sheets of a kind.
+    fn changed_chains(make: fn(&mut Random) -> Vec<u8>) -> usize {
+        let mut random = Random(12);
+        let sheets = (0..100).map(|_| checked(&make(&mut random)).expect("a sheet"));
+        let changed = sheets.filter(|sheet| change_the_chain(sheet, &planned(sheet)));
+        changed.count()
+    }
+
+    #[test]
+    fn removals_change_the_plan() {
+        for make in [
+            brief_removal_sheet,
+            removal_sheet,
+            frequent_removal_sheet,
+            corner_removal_sheet,
+        ] {
+            assert!(changed_chains(make) > 20);
+        }
+    }
+
     #[test]
     fn motors_age_as_fast_as_the_checks_allow() {
         let mut random = Random(10);
@@ -262,11 +368,11 @@ mod tests {
         for _ in 0..1_000 {
             let mut sheet = corner_motors_sheet(&mut random);
             let [grows, ages] = [ELECTRICITY_INFLATION, ELECTRICITY_AGEING]
-                .map(|inner| signed(&sheet, of_option(1, inner)));
+                .map(|inner| signed_in(&sheet, 1, inner));
             assert!(ages > 0);
             let product = (1_000_000 + grows) * (1_000_000 + ages);
             met += usize::from(product == 1_000_000 * (1_000_000 + unsigned(&sheet, RATE)));
-            write(&mut sheet, of_option(1, ELECTRICITY_AGEING), ages + 2);
+            write_in(&mut sheet, 1, ELECTRICITY_AGEING, ages + 2);
             assert_eq!(check(&sheet).packed(), 8 * 4 + 1);
         }
         assert!(met > 30);
@@ -283,15 +389,20 @@ mod tests {
 
     #[test]
     fn corner_sheets_have_the_limits() {
-        let natural = |inner| corners(move |sheet| unsigned(sheet, of_option(2, inner)));
+        let natural = |inner| corners(move |sheet| unsigned_in(sheet, 2, inner));
         assert_eq!(corners(|sheet| unsigned(sheet, RATE)), [0, 200_000]);
         assert_eq!(natural(overhaul_age(7)), [8, 119]);
         assert_eq!(natural(overhaul_amount(7)), [0, 1_000_000_000]);
+        let removals = corners(|sheet| match Layout::of(sheet).has(REMOVAL) {
+            true => unsigned_in(sheet, 2, REMOVAL),
+            false => -1,
+        });
+        assert_eq!(removals, [-1, 0, 1_000_000_000]);
         for [amount, inflation, ageing] in FLOWS {
             let most = largest_partner(0, -100_000);
             assert_eq!(natural(amount), [0, 1_000_000_000]);
             assert_eq!(natural(ageing), [0, most, 300_000]);
-            let inflations = corners(|sheet| signed(sheet, of_option(2, inflation)));
+            let inflations = corners(|sheet| signed_in(sheet, 2, inflation));
             assert_eq!(inflations, [-100_000, 0, 200_000]);
         }
     }

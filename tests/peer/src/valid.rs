@@ -1,4 +1,4 @@
-//! Sheets that pass every check, many of their fields at a limit.
+//! Sheets of either version that pass every check, many of their fields at a limit.
 
 use crate::random::Random;
 use crate::sheet::*;
@@ -19,6 +19,11 @@ pub struct Shape {
     pub fewest_overhauls: usize,
 }
 
+/// Of version 1 or 2, each half of the time.
+pub fn some_layout(random: &mut Random) -> Layout {
+    LAYOUTS[random.below(LAYOUTS.len())]
+}
+
 pub fn valid_sheet(random: &mut Random) -> Vec<u8> {
     let shape = Shape {
         draw: Random::near_an_end,
@@ -32,17 +37,21 @@ pub fn valid_sheet(random: &mut Random) -> Vec<u8> {
 pub fn shaped_sheet(random: &mut Random, shape: &Shape) -> Vec<u8> {
     let rate = (shape.draw)(random, 0, 200_000);
     let horizon = (shape.draw)(random, 1, 300);
+    let layout = some_layout(random);
     let mut drawing = Drawing {
         random,
         shape,
         rate,
-        sheet: with_head(horizon, rate),
+        sheet: layout.with_head(horizon, rate),
     };
     for option in 0..OPTIONS {
         drawing.lives(option);
         drawing.investment(option);
         drawing.flows(option);
         drawing.overhauls(option);
+        if layout.has(REMOVAL) {
+            drawing.removal(option);
+        }
     }
     drawing.sheet
 }
@@ -68,7 +77,7 @@ impl Drawing<'_> {
     }
 
     fn write(&mut self, option: usize, inner: Field, value: i64) {
-        write(&mut self.sheet, of_option(option, inner), value);
+        write_in(&mut self.sheet, option, inner, value);
     }
 
     fn lives(&mut self, option: usize) {
@@ -114,6 +123,13 @@ impl Drawing<'_> {
             self.write(option, overhaul_age(entry), age);
             self.write(option, overhaul_amount(entry), amount);
         }
+    }
+
+    fn removal(&mut self, option: usize) {
+        let inflation = self.inflation();
+        let amount = self.amount();
+        self.write(option, REMOVAL, amount);
+        self.write(option, REMOVAL_INFLATION, inflation);
     }
 }
 

@@ -13,6 +13,7 @@ use Rattle.sheet.specs.Sheet.{sheetOf}
 use Rattle.sheet.proofs.ParsedLaws.{horizon-read}
 use Rattle.checking.specs.Passes.{Passes}
 use Rattle.checking.specs.Fit.{Fit}
+use Rattle.checking.proofs.PassesLaws.{header-sized}
 use Rattle.checking.proofs.FitLaws.{fit}
 use Rattle.chain.specs.Chain.{Feasible}
 use Rattle.chain.specs.PlanBytes.{decode, Shaped}
@@ -59,7 +60,7 @@ holds c =
     accepted-iff _ _ .0 (ap (λ (x : Answer). x .number) (sym (r .price .ensures .0)) ∙ c .if1 .left)
 
 parse-requires : tie.Need-parse-requires
-parse-requires c κs = holds (c .before) .0 .header .long
+parse-requires c κs = header-sized _ (holds (c .before) .0 .header)
 
 roomy-requires : tie.Need-roomy-requires
 roomy-requires c κs = search needs

@@ -3,18 +3,17 @@
 use Prim.Native.Nat.{_≤_, _-_}
 use mathlib.Core.Path.{_≡_, ap, sym, _∙_}
 use native.Mathlib.Omega.{arith}
-use lib.ListN.{length}
 use borrow.Author.Needs.{needs}
 use borrow.Author.Tests.{not-true, not-false}
 use Rattle.base.specs.Answer.{accepted}
-use Rattle.sheet.specs.Layout.{sheetLength}
+use Rattle.sheet.specs.Layout.{Sized}
 use Rattle.sheet.specs.Sheet.{sheetOf}
 use Rattle.sheet.specs.Parsed.{overhaulsOf, termsOf}
 use Rattle.sheet.specs.declared.Terms.{Terms}
 use Rattle.checking.specs.Refusals.{ageBefore, overhaulOk, headerNumber, fieldsNumber, overhaulAnswer, firstBelow, optionAnswer}
 use Rattle.checking.proofs.FirstLaws.{first-zero}
 use Rattle.checking.proofs.RuleLaws.{age-before-zero, age-before-suc, entry-tested}
-use Rattle.checking.proofs.PassesLaws.{header-iff}
+use Rattle.checking.proofs.PassesLaws.{header-sized, header-iff}
 use Rattle.checking.proofs.CheckLaws.{check-answers, discount-small, next-overhaul, next-option, header-refused, all-passed, fields-refused, overhaul-refused}
 use Rattle.checking.proofs.check.Statement.{statement}
 use Rattle.checking.proofs.check.Tie as tie
@@ -35,8 +34,8 @@ abbrev μ-options : tie.MeasureT-options
 header-passed : (c : tie.Else1 Inv-loop μ-loop Inv-options μ-options) → headerNumber (c .before .before .before .args .sheet .now) ≡ 0
 header-passed c = sym (c .before .header-number .ensures) ∙ c .if1 .left
 
-long : (c : tie.Else1 Inv-loop μ-loop Inv-options μ-options) → length (c .before .before .before .args .sheet .now) ≡ sheetLength
-long c = header-iff _ .0 (header-passed c) .long
+long : (c : tie.Else1 Inv-loop μ-loop Inv-options μ-options) → Sized (c .before .before .before .args .sheet .now)
+long c = header-sized _ (header-iff _ .0 (header-passed c))
 
 -- the number of option k's fields, and the test of its entry j, over the sheet
 fields-found :

@@ -10,12 +10,13 @@ use Rattle.sheet.specs.Sheet.{sheetOf}
 use Rattle.sheet.specs.Parsed.{termsOf}
 use Rattle.checking.specs.Refusals.{checked}
 use Rattle.checking.specs.Passes.{Passes}
+use Rattle.checking.proofs.PassesLaws.{header-sized}
 use Rattle.checking.proofs.FitLaws.{fit}
 use Rattle.costing.specs.Arc.{arcOf}
 use Rattle.costing.specs.Offered.{offered, Offered}
 use Rattle.costing.specs.Fit.{KeptFits}
 use Rattle.costing.specs.declared.Kept.{Kept}
-use Rattle.costing.proofs.SheetArcLaws.{kept-made, cost-paid, kept-fits}
+use Rattle.costing.proofs.SheetArcLaws.{kept-made, cost-whole, kept-fits}
 use Rattle.costing.proofs.OfferedLaws.{offered-read, offered-iff}
 use Rattle.costing.proofs.CostLaws.{cost-refused, cost-unoffered, cost-offered, cost-answers}
 use Rattle.costing.proofs.cost.Statement.{statement}
@@ -69,10 +70,10 @@ smaller-requires : tie.Need-smaller-requires
 smaller-requires c κs = search needs
 
 terms-of-requires : tie.Need-terms-of-requires
-terms-of-requires c κs = (passes (c .before) .header .long, omega (arith, c .smaller .ensures))
+terms-of-requires c κs = (header-sized _ (passes (c .before) .header), omega (arith, c .smaller .ensures))
 
 horizon-of-requires : tie.Need-horizon-of-requires
-horizon-of-requires c κs = passes (c .before .before) .header .long
+horizon-of-requires c κs = header-sized _ (passes (c .before .before) .header)
 
 offered-by-requires : tie.Need-offered-by-requires
 offered-by-requires c κs = search needs
@@ -88,7 +89,7 @@ returns-2 c =
     (c .refused .ensures ∙ ap (λ (n : ℕ). refused n 3) (omega arith) ∙ cost-unoffered _ _ _ _ (passed (d .before .before .before .before)) out)
 
 discount-of-requires : tie.Need-discount-of-requires
-discount-of-requires c κs = passes (c .before .before .before .before .before) .header .long
+discount-of-requires c κs = header-sized _ (passes (c .before .before .before .before .before) .header)
 
 since-of-requires : tie.Need-since-of-requires
 since-of-requires c κs = search needs
@@ -101,17 +102,20 @@ of-requires c κs =
     let rate = passes (c .before .before .before .before .before .before .before .before) .header .rate in
     (omega (arith, c .before .before .discount-of .ensures), omega (arith, c .before .before .discount-of .ensures))
 
+pays-removal-requires : tie.Need-pays-removal-requires
+pays-removal-requires c κs = search needs
+
 sub-cost : tie.Need-sub-cost
-sub-cost c = found (c .before .before .before .before) .forward
+sub-cost c = found (c .before .before .before .before .before) .forward
 
 cost-requires : tie.Need-cost-requires
 cost-requires c κs =
-    let k = c .before in
+    let k = c .before .before in
     let e = k .before .before .before in
     let h = passes (e .before .before .before .before .before) in
     let o = found e in
-    let d = c .of .ensures in
-    let same : c .of .result .by ≡ k .kept-on .result .discount =
+    let d = c .before .of .ensures in
+    let same : c .before .of .result .by ≡ k .kept-on .result .discount =
     d .0 ∙ sym (ap (λ (a : Kept). a .discount) (k .kept-on .ensures)) in (
       record {
         fits = subst KeptFits (sym (made k)) (kept-fits _ _ _ _ (fit _ h) (o .known) (omega (arith, o .forward, o .inside)));
@@ -125,9 +129,10 @@ accepted-requires c κs = search needs
 
 returns-3 : tie.Need-returns-3
 returns-3 c =
-    let k = c .before .before .before in
+    let pays = c .before .before in
+    let k = pays .before .before in
     let e = k .before .before .before in
-    let units = c .before .cost .ensures ∙ cost-paid _ _ _ _ _ (made k) in
+    let units = c .before .cost .ensures ∙ cost-whole _ _ _ _ (made k) (pays .pays-removal .ensures) (e .before .before .horizon-of .ensures) in
     cost-answers _ _ _ _ _
     (c .accepted .ensures
     ∙ ap accepted (omega (arith, units))
@@ -149,6 +154,7 @@ cost-spec =
     since-of-requires
     kept-on-requires
     of-requires
+    pays-removal-requires
     sub-cost
     cost-requires
     accepted-requires

@@ -11,6 +11,7 @@ use Rattle.base.specs.declared.Answer.{Answer}
 use Rattle.sheet.specs.Sheet.{sheetOf}
 use Rattle.checking.specs.Refusals.{checked}
 use Rattle.checking.specs.Passes.{Passes}
+use Rattle.checking.proofs.PassesLaws.{header-sized}
 use Rattle.checking.specs.Fit.{Fit, SheetFits}
 use Rattle.checking.proofs.FitLaws.{fit}
 use Rattle.tails.specs.Words.{wordsNeeded, totalOf, firstEnd}
@@ -84,7 +85,7 @@ refused-requires : tie.Need-refused-requires
 refused-requires c κs = search needs
 
 parse-requires : tie.Need-parse-requires
-parse-requires c κs = passes (c .before) .header .long
+parse-requires c κs = header-sized _ (passes (c .before) .header)
 
 slice-aggregate-tail-words : tie.Need-slice-aggregate-tail-words
 slice-aggregate-tail-words c = search needs

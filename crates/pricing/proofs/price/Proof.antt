@@ -14,6 +14,7 @@ use Rattle.sheet.proofs.ParsedLaws.{horizon-read}
 use Rattle.checking.specs.Refusals.{checked}
 use Rattle.checking.specs.Passes.{Passes}
 use Rattle.checking.specs.Fit.{Fit}
+use Rattle.checking.proofs.PassesLaws.{header-sized}
 use Rattle.checking.proofs.FitLaws.{fit}
 use Rattle.chain.specs.PlanBytes.{decode}
 use Rattle.chain.specs.Ordered.{Ordered}
@@ -54,7 +55,7 @@ found :
 found c = sym (c .before .plan-fits .ensures _ (c .before .before .parse .ensures)) ∙ not-false _ (c .if2 .left)
 
 parse-requires : tie.Need-parse-requires
-parse-requires c κs = passes c .header .long
+parse-requires c κs = header-sized _ (passes c .header)
 
 plan-fits-requires : tie.Need-plan-fits-requires
 plan-fits-requires c κs = search needs

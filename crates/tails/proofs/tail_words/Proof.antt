@@ -14,8 +14,8 @@ start c = c .before .before .before
 
 returns : tie.Need-returns
 returns c =
-    let f = c .before .before .before .before in
-    let s = start (f .before .before .before .before .before .before .before .before) in
+    let f = c .before .before .before .before .before in
+    let s = start (f .before .before .before .before .before .before .before .before .before) in
     let written = f .fill .ensures in (
       written .0,
       (
@@ -34,7 +34,7 @@ lend-requires c κs =
 
 fill-requires : tie.Need-fill-requires
 fill-requires c κs =
-    let lent = c .before .before .before .before .before in
+    let lent = c .before .before .before .before .before .before in
     let s = start (lent .before .before) in
     let d = lent .before .before .of .ensures in
     record {
@@ -43,6 +43,7 @@ fill-requires c κs =
       lent = lent .lend .ensures;
       enough = s .pre .1;
       places = s .pre .2;
+      behind = omega arith;
     }
 
 of-requires : tie.Need-of-requires
@@ -54,6 +55,9 @@ slice-aggregate-lend c = search needs
 slice-aggregate-fill : tie.Need-slice-aggregate-fill
 slice-aggregate-fill c = search needs
 
+slice-aggregate-fill-2 : tie.Need-slice-aggregate-fill-2
+slice-aggregate-fill-2 c = search needs
+
 same-length : tie.Need-same-length
 same-length c = search needs
 
@@ -63,4 +67,4 @@ same-length-2 c = search needs
 pub tail-words-spec : {M : Type 1} → statement M
 tail-words-spec =
     tie.close
-    (tie.spec of-requires slice-aggregate-lend lend-requires slice-aggregate-fill fill-requires same-length same-length-2 returns)
+    (tie.spec of-requires slice-aggregate-lend lend-requires slice-aggregate-fill slice-aggregate-fill-2 fill-requires same-length same-length-2 returns)

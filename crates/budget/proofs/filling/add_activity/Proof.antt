@@ -17,6 +17,9 @@ use Rattle.budget.proofs.filling.add_activity.Tie as tie
 kept-of-requires : tie.Need-kept-of-requires
 kept-of-requires c κs = search needs
 
+pays-removal-requires : tie.Need-pays-removal-requires
+pays-removal-requires c κs = search needs
+
 sub-years : tie.Need-sub-years
 sub-years c = search needs
 
@@ -38,7 +41,7 @@ from c = ap (λ (k : Kept). k .from) (c .kept-of .ensures)
 
 add-arc-requires : tie.Need-add-arc-requires
 add-arc-requires c κs =
-    let k = c .before in
+    let k = c .before .before in
     let s = start k in
     let h = s .pre .0 .0 in
     let o = s .pre .1 in
@@ -54,7 +57,7 @@ add-arc-requires c κs =
 
 add-arc-requires-2 : tie.Need-add-arc-requires-2
 add-arc-requires-2 c κs =
-    let k = c .before .before .before .before .before in
+    let k = c .before .before .before .before .before .before in
     let s = start k in
     let h = s .pre .0 .0 in
     let o = s .pre .1 in
@@ -79,24 +82,27 @@ unfolding arcOf
 returns c =
     let m = c .before .before in
     let u = m .before .before .before .before in
-    let k = u .before .before in
+    let b = u .before .before in
+    let k = b .before in
     let s = start k in
     let a = s .args in
     let h = s .pre .0 .0 in
     let o = s .pre .1 in
     let made = k .kept-of .ensures in
-    let kept = k .kept-of .result in (
+    let kept = k .kept-of .result in
+    let removed = b .pays-removal .result in
+    let pays = b .pays-removal .ensures in (
       λ p read.
-          arc-read (a .sheet) (a .option) (a .start) (a .end) (o .0) kept made (now (a .units)) (u .add-arc .last .0) (λ (k : Kept). rounded (k .discount)) p read
+          arc-read (a .sheet) (a .option) (a .start) (a .end) (o .0) kept made removed pays (now (a .units)) (u .add-arc .last .0) (λ (k : Kept). rounded (k .discount)) p read
           (u .add-arc .ensures),
       (
         λ p read.
-            arc-read (a .sheet) (a .option) (a .start) (a .end) (o .0) kept made (now (a .cents)) (m .add-arc2 .last .0) (λ (k : Kept). inMoney (a .money)) p read
+            arc-read (a .sheet) (a .option) (a .start) (a .end) (o .0) kept made removed pays (now (a .cents)) (m .add-arc2 .last .0) (λ (k : Kept). inMoney (a .money)) p read
             (m .add-arc2 .ensures),
         (
-          units-below (a .sheet) (a .option) (a .start) (a .end) (o .0) kept made (now (a .units)) (u .add-arc .last .0) (h .fit) (o .1) (o .2) _
+          units-below (a .sheet) (a .option) (a .start) (a .end) (o .0) kept made removed pays (now (a .units)) (u .add-arc .last .0) (h .fit) (o .1) (o .2) _
               (h .unitsRoom) (u .add-arc .ensures),
-          cents-below (a .sheet) (a .option) (a .start) (a .end) (o .0) kept made (now (a .cents)) (m .add-arc2 .last .0) (h .fit) (o .1) (o .2) _
+          cents-below (a .sheet) (a .option) (a .start) (a .end) (o .0) kept made removed pays (now (a .cents)) (m .add-arc2 .last .0) (h .fit) (o .1) (o .2) _
               (h .centsRoom) (a .money) (h .counts) (m .add-arc2 .ensures),
         ),
       ),
@@ -107,6 +113,7 @@ add-activity-spec =
     tie.close
     (tie.spec
     kept-of-requires
+    pays-removal-requires
     sub-years
     add-arc-requires
     add-arc-requires-2

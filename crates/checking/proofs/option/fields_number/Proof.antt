@@ -21,9 +21,9 @@ lives c o t = c .lives-ok .ensures ∙ ap (λ (v : Terms). livesOk (v .shortest)
 
 amounts :
     (c : tie.After-amounts-ok) (o : OptionRecord) → c .before .before .before .args .t ≡ termsOf o →
-    c .amounts-ok .result ≡ amountsOk (o .investment .amount) (o .maintenance .amount) (o .electricity .amount)
+    c .amounts-ok .result ≡ amountsOk (o .investment .amount) (o .maintenance .amount) (o .electricity .amount) (o .removal .amount)
 unfolding termsOf flowOf
-amounts c o t = c .amounts-ok .ensures ∙ ap (λ (v : Terms). amountsOk (v .investment .amount) (v .maintenance .amount) (v .electricity .amount)) t
+amounts c o t = c .amounts-ok .ensures ∙ ap (λ (v : Terms). amountsOk (v .investment .amount) (v .maintenance .amount) (v .electricity .amount) (v .removal .amount)) t
 
 -- and it holds where the code goes on
 lives-passed : (c : tie.Else1) (o : OptionRecord) → c .before .before .args .t ≡ termsOf o → livesOk (o .shortest) (o .longest) ≡ true
@@ -31,7 +31,7 @@ lives-passed c o t = sym (lives (c .before) o t) ∙ not-false _ (c .if1 .left)
 
 amounts-passed :
     (c : tie.Else2) (o : OptionRecord) → c .before .before .before .before .args .t ≡ termsOf o →
-    amountsOk (o .investment .amount) (o .maintenance .amount) (o .electricity .amount) ≡ true
+    amountsOk (o .investment .amount) (o .maintenance .amount) (o .electricity .amount) (o .removal .amount) ≡ true
 amounts-passed c o t = sym (amounts (c .before) o t) ∙ not-false _ (c .if2 .left)
 
 inflations-passed :

@@ -1,4 +1,4 @@
--- Refusal 7 of the four inflations of a record. Assumes nothing.
+-- Refusal 7 of the five inflations of a record. Assumes nothing.
 use mathlib.Core.Path.{ap}
 use mathlib.Core.Bool.{_&&_}
 use Rattle.sheet.specs.Parsed.{termsOf, flowOf, overhaulsOf}
@@ -20,15 +20,19 @@ inflation-ok-requires-3 c κs = search needs
 inflation-ok-requires-4 : tie.Need-inflation-ok-requires-4
 inflation-ok-requires-4 c κs = search needs
 
+inflation-ok-requires-5 : tie.Need-inflation-ok-requires-5
+inflation-ok-requires-5 c κs = search needs
+
 returns : tie.Need-returns
 unfolding inflationsOk termsOf flowOf overhaulsOf
 returns c =
     λ r o d t.
-    let i = c .before .before .before .inflation-ok .ensures r (o .investment .inflation) d (ap (λ (v : Terms). v .investment .grow) t) in
-    let m = c .before .before .inflation-ok2 .ensures r (o .maintenance .inflation) d (ap (λ (v : Terms). v .maintenance .grow) t) in
-    let e = c .before .inflation-ok3 .ensures r (o .electricity .inflation) d (ap (λ (v : Terms). v .electricity .grow) t) in
-    let w = c .inflation-ok4 .ensures r (o .overhaulInflation) d (ap (λ (v : Terms). v .overhauls .grow) t) in
-    λ n. i n && m n && e n && w n
+    let i = c .before .before .before .before .inflation-ok .ensures r (o .investment .inflation) d (ap (λ (v : Terms). v .investment .grow) t) in
+    let m = c .before .before .before .inflation-ok2 .ensures r (o .maintenance .inflation) d (ap (λ (v : Terms). v .maintenance .grow) t) in
+    let e = c .before .before .inflation-ok3 .ensures r (o .electricity .inflation) d (ap (λ (v : Terms). v .electricity .grow) t) in
+    let w = c .before .inflation-ok4 .ensures r (o .overhaulInflation) d (ap (λ (v : Terms). v .overhauls .grow) t) in
+    let x = c .inflation-ok5 .ensures r (o .removal .inflation) d (ap (λ (v : Terms). v .removal .grow) t) in
+    λ n. i n && m n && e n && w n && x n
 
 pub inflations-ok-spec : {M : Type 1} → statement M
 inflations-ok-spec =
@@ -38,4 +42,5 @@ inflations-ok-spec =
     inflation-ok-requires-2
     inflation-ok-requires-3
     inflation-ok-requires-4
+    inflation-ok-requires-5
     returns)

@@ -11,7 +11,7 @@ use Rattle.front.proofs.maintaining.best_maintain.Tie as tie
 
 returns : tie.Need-returns
 returns c p read =
-    let k = c .before .before .before in
+    let k = c .before .before .before .before in
     let s = k .before .before .before .before .before in
     planned-best p (subst Fit read (s .pre .0 .0 .fit)) (s .args .sheet) read (now (s .args .totals)) (s .pre .1 .0) (k .kept-of .ensures) (c .best-from .ensures)
 
@@ -24,12 +24,15 @@ lend-requires c κs = search needs
 kept-of-requires : tie.Need-kept-of-requires
 kept-of-requires c κs = search needs
 
+shared-slice-read-best-from : tie.Need-shared-slice-read-best-from
+shared-slice-read-best-from c = search needs
+
 slice-aggregate-best-from : tie.Need-slice-aggregate-best-from
 slice-aggregate-best-from c = search needs
 
 best-from-requires : tie.Need-best-from-requires
 best-from-requires c κs =
-    let k = c .before .before in
+    let k = c .before .before .before in
     let lent = k .before .before in
     let s = lent .before .before .before in
     lent-asks (s .args .sheet) (s .pre .0 .0 .fit) _ (s .pre .0 .1) maintain 0 _ _ (now (s .args .totals)) (omega arith) (omega arith) (lent .lend .ensures)
@@ -42,6 +45,7 @@ best-maintain-spec =
     slice-aggregate-lend
     lend-requires
     kept-of-requires
+    shared-slice-read-best-from
     slice-aggregate-best-from
     best-from-requires
     returns)

@@ -18,13 +18,13 @@ use Rattle.weighing.specs.Ends.{WordsFit}
 use Rattle.weighing.specs.declared.Best.{Best}
 use Rattle.front.specs.Planned.{renovated}
 use Rattle.front.specs.Front.{RenovatedAt, Written}
-use Rattle.front.proofs.KeptLaws.{renovated-best, lent-asks, tails-fit}
+use Rattle.front.proofs.KeptLaws.{renovated-best, lent-asks, ahead-fit}
 use Rattle.front.proofs.RenovationLaws.{written-next, may-end, fits-none, fits-next}
 use Rattle.front.proofs.renovating.fill.Statement.{statement}
 use Rattle.front.proofs.renovating.fill.Tie as tie
 
 abbrev Inv-loop : tie.InvT-loop
-Inv-loop totals₀ ends₀ words streams ages discount sheet horizon shortest top i₀ totals ends i =
+Inv-loop totals₀ ends₀ words ahead streams ages discount sheet horizon shortest top i₀ totals ends i =
     (i ≤ yearPlaces)
     × (length totals ≡ length totals₀)
     × (length ends ≡ length ends₀)
@@ -32,15 +32,15 @@ Inv-loop totals₀ ends₀ words streams ages discount sheet horizon shortest to
     × WordsFit horizon 0 totals
 
 abbrev μ-loop : tie.MeasureT-loop
-μ-loop totals₀ ends₀ words streams ages discount sheet horizon shortest top i₀ totals ends i = yearPlaces - i
+μ-loop totals₀ ends₀ words ahead streams ages discount sheet horizon shortest top i₀ totals ends i = yearPlaces - i
 
 abbrev start : tie.At-loop Inv-loop μ-loop → tie.Start Inv-loop μ-loop
-start c = c .before .before .before .before .before .before .before
+start c = c .before .before .before .before .before .before .before .before
 
 abbrev sheet : tie.At-loop Inv-loop μ-loop → Sheet
-sheet c = start c .args .t6
+sheet c = start c .args .t7
 
-short : (s : tie.Start Inv-loop μ-loop) → s .args .t6 .horizon ≤ 300
+short : (s : tie.Start Inv-loop μ-loop) → s .args .t7 .horizon ≤ 300
 short s = s .pre .0 .0 .fit .horizonHigh
 
 -- a year of the loop is within the horizon
@@ -49,13 +49,13 @@ inside c = omega (arith, c .before .before .smaller .ensures, c .loop-test .take
 
 -- the choice is that of renovating from year i
 chosen :
-    (c : tie.After-best-from Inv-loop μ-loop) (p : PlanningSheet) → sheet (c .before .before .before) ≡ parsed p
-    → c .best-from .result ≡ inShort (renovated p (c .before .before .before .loop .i))
+    (c : tie.After-best-from Inv-loop μ-loop) (p : PlanningSheet) → sheet (c .before .before .before .before) ≡ parsed p
+    → c .best-from .result ≡ inShort (renovated p (c .before .before .before .before .loop .i))
 chosen c p read =
-    let k = c .before in
+    let k = c .before .before in
     let a = k .before .before in
     let s = start a in
-    renovated-best p (subst Fit read (s .pre .0 .0 .fit)) (sheet a) read (now (s .args .words)) (s .pre .1 .0 .1) (a .loop .i)
+    renovated-best p (subst Fit read (s .pre .0 .0 .fit)) (sheet a) read (now (s .args .words)) (now (s .args .ahead)) (s .pre .1 .0 .1) (s .pre .1 .0 .2) (a .loop .i)
     (inside (k .before)) (k .kept-of .ensures) (c .best-from .ensures)
 
 -- there is a place for it
@@ -72,7 +72,7 @@ room c =
 loop-again : tie.Need-loop-again Inv-loop μ-loop
 loop-again c =
     let b = c .before in
-    let i = b .before .before in
+    let i = b .before .before .before in
     let a = i .before in
     let s = start a in
     let some = s .pre .0 .0 in
@@ -124,12 +124,12 @@ smaller-requires c κs = tt
 
 loop-holds : tie.Need-loop-holds Inv-loop μ-loop
 loop-holds c =
-    let s = c .before .before .before .before .before .before in (
+    let s = c .before .before .before .before .before .before .before in (
       omega arith,
       refl,
       refl,
       λ p read e early may. absurd (omega arith),
-      fits-none (s .args .t6 .horizon) (now (s .args .totals)) (short s) (s .pre .1 .1 .0),
+      fits-none (s .args .t7 .horizon) (now (s .args .totals)) (short s) (s .pre .1 .1 .0),
     )
 
 kept-of-requires : tie.Need-kept-of-requires Inv-loop μ-loop
@@ -137,33 +137,43 @@ kept-of-requires c κs = omega arith
 
 best-from-requires : tie.Need-best-from-requires Inv-loop μ-loop
 best-from-requires c κs =
-    let i = c .before in
+    let k = c .before in
+    let i = k .before in
     let a = i .before in
     let h = start a .pre in
-    let held = h .1 .0 .1 in
-    lent-asks (sheet a) (h .0 .0 .fit) _ (h .0 .1) renovate (a .loop .i) _ _ (now (start a .args .words)) (omega arith) (inside i) (h .1 .0 .0) (held .room)
-    (tails-fit (sheet a) (h .0 .0) (a .loop .i) _ held) (c .kept-of .ensures)
+    let held = h .1 .0 .2 in
+    lent-asks (sheet a) (h .0 .0 .fit) _ (h .0 .1) renovate (a .loop .i) _ _ (now (start a .args .ahead)) (omega arith) (inside i) (h .1 .0 .0) (held .room)
+    (ahead-fit (sheet a) (h .0 .0) (a .loop .i) _ held) (k .kept-of .ensures)
+
+mul-behind : tie.Need-mul-behind Inv-loop μ-loop
+mul-behind c = omega (arith, inside (c .before), short (start (c .before .before)))
+
+shared-slice-read-behind : tie.Need-shared-slice-read-behind Inv-loop μ-loop
+shared-slice-read-behind c =
+    let i = c .before .before in
+    let s = start (i .before) in
+    omega (arith, inside i, short s, s .pre .1 .0 .1 .room)
 
 mul-totals : tie.Need-mul-totals Inv-loop μ-loop
-mul-totals c = omega (arith, inside (c .before .before), short (start (c .before .before .before)))
+mul-totals c = omega (arith, inside (c .before .before .before), short (start (c .before .before .before .before)))
 
 slice-write-totals : tie.Need-slice-write-totals Inv-loop μ-loop
-slice-write-totals c = room (c .before .before) .0
+slice-write-totals c = room (c .before .before .before) .0
 
 mul-ends : tie.Need-mul-ends Inv-loop μ-loop
-mul-ends c = omega (arith, inside (c .before .before), short (start (c .before .before .before)))
+mul-ends c = omega (arith, inside (c .before .before .before), short (start (c .before .before .before .before)))
 
 slice-write-ends : tie.Need-slice-write-ends Inv-loop μ-loop
-slice-write-ends c = room (c .before .before) .1
+slice-write-ends c = room (c .before .before .before) .1
 
 add-larger : tie.Need-add-larger Inv-loop μ-loop
-add-larger c = omega (arith, inside (c .before .before), short (start (c .before .before .before)))
+add-larger c = omega (arith, inside (c .before .before .before), short (start (c .before .before .before .before)))
 
 larger-requires : tie.Need-larger-requires Inv-loop μ-loop
 larger-requires c κs = tt
 
 loop-less : tie.Need-loop-less Inv-loop μ-loop
-loop-less c = omega (arith, c .larger .ensures, inside (c .before .before .before), short (start (c .before .before .before .before)))
+loop-less c = omega (arith, c .larger .ensures, inside (c .before .before .before .before), short (start (c .before .before .before .before .before)))
 
 same-length : tie.Need-same-length Inv-loop μ-loop
 same-length c = c .before .loop .inv .1
@@ -182,6 +192,8 @@ fill-spec =
     smaller-requires
     loop-holds
     kept-of-requires
+    mul-behind
+    shared-slice-read-behind
     best-from-requires
     mul-totals
     slice-write-totals

@@ -1,6 +1,6 @@
 -- `ages_at` reads the ages of the eight overhauls. Assumes nothing.
 use mathlib.Core.List.{[], _∷_}
-use Rattle.sheet.specs.Sheet.{optionAt}
+use Rattle.sheet.specs.Sheet.{overhaulAt}
 use borrow.Author.Needs.{needs}
 use Rattle.sheet.proofs.record.ages_at.Statement.{statement}
 use Rattle.sheet.proofs.record.ages_at.Tie as tie
@@ -54,7 +54,7 @@ u16-at-requires-8 : tie.Need-u16-at-requires-8
 u16-at-requires-8 c κs = search needs
 
 returns : tie.Need-returns
-unfolding optionAt
+unfolding overhaulAt
 returns c =
     λ i.
     c .before .before .before .before .before .before .before .u16-at .ensures .0 i

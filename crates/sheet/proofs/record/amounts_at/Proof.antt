@@ -1,6 +1,6 @@
 -- `amounts_at` reads the amounts of the eight overhauls. Assumes nothing.
 use mathlib.Core.List.{[], _∷_}
-use Rattle.sheet.specs.Sheet.{optionAt}
+use Rattle.sheet.specs.Sheet.{overhaulAt}
 use borrow.Author.Needs.{needs}
 use Rattle.sheet.proofs.record.amounts_at.Statement.{statement}
 use Rattle.sheet.proofs.record.amounts_at.Tie as tie
@@ -54,7 +54,7 @@ u32-at-requires-8 : tie.Need-u32-at-requires-8
 u32-at-requires-8 c κs = search needs
 
 returns : tie.Need-returns
-unfolding optionAt
+unfolding overhaulAt
 returns c =
     λ i.
     c .before .before .before .before .before .before .before .u32-at .ensures .0 i

@@ -1,5 +1,5 @@
 -- `overhauls_at` reads the overhauls of a record. Assumes nothing.
-use Rattle.sheet.specs.Sheet.{optionAt}
+use Rattle.sheet.specs.Sheet.{overhaulAt, optionAt}
 use Rattle.sheet.specs.Parsed.{overhaulsOf}
 use borrow.Author.Needs.{needs}
 use Rattle.sheet.proofs.record.overhauls_at.Statement.{statement}
@@ -24,9 +24,9 @@ u8-at-requires : tie.Need-u8-at-requires
 u8-at-requires c κs = search needs
 
 returns : tie.Need-returns
-unfolding optionAt overhaulsOf
+unfolding overhaulAt optionAt overhaulsOf
 returns c =
-    λ i.
+    λ long i.
     record {
       grow = c .before .factor-at .ensures i;
       count = c .u8-at .ensures .0 i;

@@ -4,7 +4,9 @@ use mathlib.Core.Path.{subst}
 use mathlib.Core.List.{[], _∷_}
 use native.Mathlib.Omega.{arith}
 use denote.Ref.{now}
+use lib.Dec.{ltb}
 use borrow.Author.Needs.{needs}
+use borrow.Author.Tests.{lt-ltb, le-ltb}
 use Rattle.steps.specs.Payment.{once}
 use Rattle.spreading.specs.Raised.{Raised, inMoney}
 use Rattle.spreading.proofs.RaisedLaws.{raised-if, raised-unless}
@@ -14,7 +16,7 @@ use Rattle.spreading.proofs.cents.add_overhaul.Tie as tie
 returns : tie.Need-returns
 returns c =
     let a = c .before .before .args in
-    raised-unless (inMoney (a .money)) (now (a .words)) (a .age) (a .years) (once (a .amount) (a .grow) (a .from + a .age)) (omega (arith, c .if1 .taken))
+    raised-unless (inMoney (a .money)) (now (a .words)) (ltb (a .age) (a .years)) (once (a .amount) (a .grow) (a .from + a .age)) (le-ltb (a .age) (a .years) (omega (arith, c .if1 .taken)))
 
 add-add-once : tie.Need-add-add-once
 add-add-once c = search needs
@@ -30,8 +32,8 @@ returns-2 c =
     let w = c .before .before in
     let e = w .before .before in
     let a = e .before .before .args in
-    raised-if (inMoney (a .money)) (now (a .words)) (w .add-once .last .0) (a .age) (a .years) (once (a .amount) (a .grow) (a .from + a .age))
-    (omega (arith, e .if1 .left))
+    raised-if (inMoney (a .money)) (now (a .words)) (w .add-once .last .0) (ltb (a .age) (a .years)) (once (a .amount) (a .grow) (a .from + a .age))
+    (lt-ltb (a .age) (a .years) (omega (arith, e .if1 .left)))
     (subst (λ (y : ℕ). Raised (inMoney (a .money)) (now (a .words)) (w .add-once .last .0) (once (a .amount) (a .grow) y ∷ [])) (omega arith) (w .add-once .ensures))
 
 pub add-overhaul-spec : {M : Type 1} → statement M

@@ -2,7 +2,9 @@
 use Prim.Native.Nat.{_+_}
 use native.Mathlib.Omega.{arith}
 use denote.Ref.{now}
+use lib.Dec.{ltb}
 use borrow.Author.Needs.{needs}
+use borrow.Author.Tests.{lt-ltb, le-ltb}
 use Rattle.steps.specs.Payment.{rounded, once}
 use Rattle.steps.proofs.RoomLaws.{once-le}
 use Rattle.spreading.proofs.RaisedLaws.{once-year, raised-one, raised-if, raised-unless, sum-fits}
@@ -12,7 +14,7 @@ use Rattle.spreading.proofs.units.add_overhaul.Tie as tie
 returns : tie.Need-returns
 returns c =
     let s = c .before .before in
-    raised-unless (rounded (s .args .discount .by)) (now (s .args .words)) (s .args .age) (s .args .years) _ (omega (arith, c .if1 .taken))
+    raised-unless (rounded (s .args .discount .by)) (now (s .args .words)) (ltb (s .args .age) (s .args .years)) _ (le-ltb (s .args .age) (s .args .years) (omega (arith, c .if1 .taken)))
 
 add-year : tie.Need-add-year
 add-year c = search needs
@@ -43,7 +45,7 @@ returns-2 c =
     let e = v .before .before in
     let s = e .before .before in
     let q = once (s .args .amount) (s .args .grow) (s .args .from + s .args .age) in
-    raised-if (rounded (s .args .discount .by)) (now (s .args .words)) (a .add .last .0) (s .args .age) (s .args .years) q (omega (arith, e .if1 .left))
+    raised-if (rounded (s .args .discount .by)) (now (s .args .words)) (a .add .last .0) (ltb (s .args .age) (s .args .years)) q (lt-ltb (s .args .age) (s .args .years) (omega (arith, e .if1 .left)))
     (raised-one (rounded (s .args .discount .by)) (now (s .args .words)) (a .add .last .0) q (omega (arith, once-year (s .args .amount) (s .args .grow) (s .args .from + s .args .age))) (v .paid-once .ensures) (a .add .ensures))
 
 pub add-overhaul-spec : {M : Type 1} → statement M

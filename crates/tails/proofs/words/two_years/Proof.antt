@@ -1,10 +1,11 @@
--- Two years: the later one is written first, by the words behind it, and the choice from the earlier one goes by its word too. Assumes nothing.
+-- Two years: the later one is settled first, by the totals behind it, and the choice from the earlier one goes by its total too. Assumes nothing.
 use Prim.Native.Nat.{ℕ, _+_, _-_, _≤_, _<_, min}
 use mathlib.Core.Path.{_≡_, refl, ap, sym, subst, _∙_}
 use native.Mathlib.Omega.{arith}
 use lib.ListN.{length}
 use denote.Ref.{now}
 use borrow.Author.Needs.{needs}
+use Rattle.sheet.specs.Layout.{yearPlaces}
 use Rattle.sheet.specs.Sheet.{replace}
 use Rattle.sheet.specs.declared.Sheet.{Sheet}
 use Rattle.costing.specs.Arc.{keptOf, keptFrom}
@@ -14,15 +15,16 @@ use Rattle.costing.proofs.SheetArcLaws.{replace-from}
 use Rattle.streams.specs.Streams.{PowerAt}
 use Rattle.weighing.specs.Ends.{Walks, CostsTo, WordsBehind}
 use Rattle.weighing.proofs.ArcCostLaws.{kept-from-fits, costs-to}
-use Rattle.tails.specs.Words.{wordsNeeded, totalOf, firstEnd}
-use Rattle.tails.specs.Writing.{WordsHeld, YearWritten}
-use Rattle.tails.proofs.WritingLaws.{held-next}
-use Rattle.tails.proofs.YearLaws.{year-best, words-behind, replace-walks, two-written}
+use Rattle.tails.specs.Words.{totalOf, firstEnd}
+use Rattle.tails.specs.Writing.{chosenBy, AheadHeld}
+use Rattle.tails.proofs.WritingLaws.{fillable-on, fillable-settles}
+use Rattle.tails.proofs.AheadLaws.{words-behind}
+use Rattle.tails.proofs.YearLaws.{replace-walks, two-written}
 use Rattle.tails.proofs.words.two_years.Statement.{statement}
 use Rattle.tails.proofs.words.two_years.Tie as tie
 
 abbrev start : tie.After-kept-of → tie.Start
-start c = c .before .before .before .before
+start c = c .before .before .before .before .before
 
 abbrev sheet : tie.After-kept-of → Sheet
 sheet c = start c .args .sheet
@@ -41,8 +43,8 @@ short c = start c .pre .0 .sheet .fit .horizonHigh
 early : (c : tie.After-kept-of) → late c < sheet c .horizon
 early c = omega (arith, start c .pre .1 .0, start c .pre .1 .1)
 
--- the words behind the later year
-held : (c : tie.After-kept-of) → WordsHeld (sheet c) (late c + 1) (now (start c .args .words))
+-- the totals behind the later year
+held : (c : tie.After-kept-of) → AheadHeld replace (sheet c) (late c + 1) (now (start c .args .ahead))
 held c p read e l u = start c .pre .1 .2 p read e (omega (arith, start c .pre .1 .0)) u
 
 -- the option replace, kept from the earlier year, and from the later one: what holds of it holds of what the code has made
@@ -58,9 +60,6 @@ next-kept c = ap (λ (k : Kept). keptFrom k (late c)) (c .kept-of .ensures) ∙ 
 next-is : (c : tie.After-starting) → c .starting .result ≡ keptOf (sheet (c .before)) replace (late (c .before))
 next-is c = c .starting .ensures ∙ next-kept (c .before)
 
-from-next : (c : tie.After-starting) → c .starting .result .from ≡ late (c .before)
-from-next c = ap (λ (k : Kept). k .from) (next-is c)
-
 of-next : (c : tie.After-starting) (P : Kept → Type 0) → P (keptFrom (c .before .kept-of .result) (late (c .before))) → P (c .starting .result)
 of-next c P h = subst P (sym (c .starting .ensures)) h
 
@@ -71,7 +70,7 @@ walks-from : (c : tie.After-kept-of) (y : ℕ) → y ≤ sheet c .horizon → Wa
 walks-from c =
     let s = start c in
     let a = s .args in
-    replace-walks (sheet c) (a .discount) (now (a .streams)) (now (a .ages)) (now (a .words)) (now (a .firsts)) (s .pre .0)
+    replace-walks (sheet c) (a .discount) (now (a .streams)) (now (a .ages)) (now (a .words)) (now (a .firsts)) (now (a .ahead)) (s .pre .0)
 
 walks : (c : tie.After-kept-of) → WalksHere c (c .kept-of .result)
 walks c = let s = start c in of-kept c (WalksHere c) (walks-from c (s .args .reached - 2) (omega (arith, s .pre .1 .1)))
@@ -107,93 +106,108 @@ top c =
     c .before .before .before .smaller .ensures
     ∙ ap (λ (n : ℕ). min (k .kept-of .result .terms .longest) (sheet k .horizon - n)) (sym (from-is k))
 
-word-requires : tie.Need-word-requires
-word-requires c κs =
-    let t = c .before .before .before .before .before in
+best-of-requires : tie.Need-best-of-requires
+best-of-requires c κs =
+    let t = c .before .before .before .before in
     let m = made t in
     let k = m .before in
     let s = start k in
     let T = sheet k .horizon in
-    let some = s .pre .1 in (
+    let ahead = now (s .args .ahead) in (
       record {
-        fits = of-next m KeptFits (kept-from-fits (k .kept-of .result) (fits k) (late k) (omega (arith, short k, some .1)));
+        fits = of-next m KeptFits (kept-from-fits (k .kept-of .result) (fits k) (late k) (omega (arith, short k, s .pre .1 .1)));
         known =
             of-next m (λ a. CostsTo a T (t .two-starts .last .1 .0))
             (costs-to (keptFrom (k .kept-of .result) (late k)) (k .kept-of .result .from) T _ (t .two-starts .last .1 .0) (top t) (omega (arith, from-is k))
             (t .two-starts .ensures .1));
         room = omega (arith, t .two-starts .kept .1 .0);
       },
-      subst (λ (a : Kept). WordsBehind a T (now (s .args .words))) (sym (next-is m))
-          (words-behind (sheet k) (now (s .args .words)) (s .pre .0 .sheet) (keptOf (sheet k) replace (late k)) (early k)
-          (s .pre .0 .enough) (held k)),
-      s .pre .0 .places,
+      subst (λ (a : Kept). WordsBehind a T ahead) (sym (next-is m))
+          (words-behind (sheet k) (s .pre .0 .sheet) replace (omega arith) (keptOf (sheet k) replace (late k)) ahead (omega (arith, early k))
+          (s .pre .0 .behind) (held k)),
     )
 
--- when those of the later year are written
-abbrev option : tie.After-word → tie.After-starting
-option c = made (c .before .before .before .before .before .before)
+-- the option, when the choice from the later year is made
+abbrev option : tie.After-best-of → tie.After-starting
+option c = made (c .before .before .before .before .before)
 
-first-words :
-    (c : tie.After-word)
-    → let k = option c .before in YearWritten totalOf (sheet k) (late k) (now (start k .args .words)) (c .word .last .0)
-first-words c =
-    let k = option c .before in
-    let words = now (start k .args .words) in
-    year-best (sheet k) words (λ best. best .total) words (late k) _ _ _ (next-is (option c)) refl (early k) (held k) (c .word .ensures .0)
-    (from-next (option c))
+settle-requires : tie.Need-settle-requires
+settle-requires c κs =
+    let b = c .before .before .before in
+    let m = option b in
+    let k = m .before in
+    let s = start k in (
+      fillable-settles (s .pre .0),
+      (
+        early k,
+        record {
+          held = held k;
+          chosen = b .best-of .ensures ∙ ap (λ (a : Kept). chosenBy a (sheet k .horizon) (now (s .args .ahead))) (next-is m);
+        },
+      ),
+    )
 
-first-firsts :
-    (c : tie.After-word)
-    → let k = option c .before in YearWritten firstEnd (sheet k) (late k) (now (start k .args .firsts)) (c .word .last .1 .0)
-first-firsts c =
-    let k = option c .before in
-    year-best (sheet k) (now (start k .args .words)) (λ best. best .end) (now (start k .args .firsts)) (late k) _ _ _ (next-is (option c)) refl (early k) (held k)
-    (c .word .ensures .1) (from-next (option c))
+-- when the later year is settled: the place at which the choice was made, and the totals behind the earlier year
+abbrev settled : tie.After-settle → tie.After-kept-of
+settled c = option (c .before .before .before .before) .before
 
--- the words behind the earlier year
-behind : (c : tie.After-word) → let k = option c .before in WordsHeld (sheet k) (start k .args .reached - 2 + 1) (c .word .last .0)
+behind : (c : tie.After-settle) → AheadHeld replace (sheet (settled c)) (start (settled c) .args .reached - 2 + 1) (c .settle .last .1 .1 .0)
 behind c =
-    let k = option c .before in
+    let k = settled c in
     let next : late k ≡ start k .args .reached - 2 + 1 = omega (arith, start k .pre .1 .0) in
-    subst (λ (y : ℕ). WordsHeld (sheet k) y (c .word .last .0)) next
-    (held-next (sheet k) (now (start k .args .words)) (c .word .last .0) (late k)
-    (omega (arith, short k, start k .pre .0 .enough, start k .pre .1 .1)) (held k) (first-words c))
+    subst (λ (y : ℕ). AheadHeld replace (sheet k) y (c .settle .last .1 .1 .0)) next (c .settle .ensures .1 .1)
 
-word-requires-2 : tie.Need-word-requires-2
-word-requires-2 c κs =
-    let w = c .before .before .before .before .before .before .before in
-    let t = w .before .before .before .before .before .before in
-    let k = option w .before in
+best-of-requires-2 : tie.Need-best-of-requires-2
+best-of-requires-2 c κs =
+    let w = c .before .before .before .before .before .before .before .before in
+    let t = w .before .before .before .before .before .before .before .before .before in
+    let k = settled w in
     let s = start k in
     let T = sheet k .horizon in
-    let long : wordsNeeded ≤ length (w .word .last .0) = omega (arith, w .word .kept .0, s .pre .0 .enough) in (
+    let ahead = w .settle .last .1 .1 .0 in
+    let long : yearPlaces ≤ length ahead = omega (arith, w .settle .kept .1 .1 .0, s .pre .0 .behind) in (
       record {
         fits = fits k;
         known = costs-to (k .kept-of .result) (k .kept-of .result .from) T _ (t .two-starts .last .0) (top t) (omega arith) (t .two-starts .ensures .0);
         room = omega (arith, t .two-starts .kept .0);
       },
-      of-kept k (λ a. WordsBehind a T (w .word .last .0))
-          (words-behind (sheet k) (w .word .last .0) (s .pre .0 .sheet) (keptOf (sheet k) replace (s .args .reached - 2))
+      of-kept k (λ a. WordsBehind a T ahead)
+          (words-behind (sheet k) (s .pre .0 .sheet) replace (omega arith) (keptOf (sheet k) replace (s .args .reached - 2)) ahead
           (omega (arith, s .pre .1 .0, s .pre .1 .1)) long (behind w)),
-      omega (arith, w .word .kept .1 .0, s .pre .0 .places),
+    )
+
+settle-requires-2 : tie.Need-settle-requires-2
+settle-requires-2 c κs =
+    let b = c .before .before .before in
+    let w = b .before .before .before .before .before .before .before .before .before in
+    let k = settled w in
+    let s = start k in
+    let a = s .args in
+    let kept = w .settle .kept in (
+      fillable-settles
+          (fillable-on (sheet k) (a .discount) (now (a .streams)) (now (a .ages)) (now (a .words)) (now (a .firsts)) (now (a .ahead)) _ _ _ (s .pre .0) (kept .0)
+          (kept .1 .0) (kept .1 .1 .0)),
+      (
+        omega (arith, s .pre .1 .0, s .pre .1 .1),
+        record {
+          held = behind w;
+          chosen = b .best-of2 .ensures ∙ ap (λ (a : Kept). chosenBy a (sheet k .horizon) (w .settle .last .1 .1 .0)) (k .kept-of .ensures);
+        },
+      ),
     )
 
 returns : tie.Need-returns
 returns c =
-    let v = c .before .before .before .before in
-    let w = v .before .before .before .before .before .before .before .before in
-    let k = option w .before in
-    let s = start k in
-    let y = s .args .reached - 2 in
-    let words = w .word .last .0 in
-    let firsts = w .word .last .1 .0 in
-    let before : y < sheet k .horizon = omega (arith, s .pre .1 .0, s .pre .1 .1) in (
+    let v = c .before .before .before .before .before .before in
+    let w = v .before .before .before .before .before .before .before .before .before .before .before .before .before in
+    let k = settled w in
+    let a = start k .args in
+    let one = w .settle .ensures in
+    let two = v .settle2 .ensures in (
       refl,
       (
-        two-written totalOf (sheet k) (s .args .reached) (now (s .args .words)) words _ (first-words w)
-            (year-best (sheet k) words (λ best. best .total) words y _ _ _ (k .kept-of .ensures) refl before (behind w) (v .word2 .ensures .0) (from-is k)),
-        two-written firstEnd (sheet k) (s .args .reached) (now (s .args .firsts)) firsts _ (first-firsts w)
-            (year-best (sheet k) words (λ best. best .end) firsts y _ _ _ (k .kept-of .ensures) refl before (behind w) (v .word2 .ensures .1) (from-is k)),
+        two-written totalOf (sheet k) (a .reached) (now (a .words)) (w .settle .last .0) _ (one .0) (two .0),
+        (two-written firstEnd (sheet k) (a .reached) (now (a .firsts)) (w .settle .last .1 .0) _ (one .1 .0) (two .1 .0), two .1 .1),
       ),
     )
 
@@ -221,17 +235,20 @@ slice-aggregate-two-starts c = search needs
 slice-aggregate-two-starts-2 : tie.Need-slice-aggregate-two-starts-2
 slice-aggregate-two-starts-2 c = search needs
 
-slice-aggregate-word : tie.Need-slice-aggregate-word
-slice-aggregate-word c = search needs
+slice-aggregate-best-of : tie.Need-slice-aggregate-best-of
+slice-aggregate-best-of c = search needs
 
-slice-aggregate-word-2 : tie.Need-slice-aggregate-word-2
-slice-aggregate-word-2 c = search needs
+slice-aggregate-best-of-2 : tie.Need-slice-aggregate-best-of-2
+slice-aggregate-best-of-2 c = search needs
 
 same-length : tie.Need-same-length
 same-length c = search needs
 
 same-length-2 : tie.Need-same-length-2
 same-length-2 c = search needs
+
+same-length-3 : tie.Need-same-length-3
+same-length-3 c = search needs
 
 pub two-years-spec : {M : Type 1} → statement M
 two-years-spec =
@@ -246,10 +263,13 @@ two-years-spec =
     slice-aggregate-two-starts
     slice-aggregate-two-starts-2
     two-starts-requires
-    slice-aggregate-word
-    word-requires
-    slice-aggregate-word-2
-    word-requires-2
+    slice-aggregate-best-of
+    best-of-requires
+    settle-requires
+    slice-aggregate-best-of-2
+    best-of-requires-2
+    settle-requires-2
     same-length
     same-length-2
+    same-length-3
     returns)

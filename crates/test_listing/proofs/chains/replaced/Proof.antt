@@ -28,8 +28,8 @@ lasts-requires c κs = search needs
 returns : tie.Need-returns Inv-loop μ-loop
 returns c = search needs
 
-arc-requires : tie.Need-arc-requires Inv-loop μ-loop
-arc-requires c κs = search needs
+renewal-requires : tie.Need-renewal-requires Inv-loop μ-loop
+renewal-requires c κs = search needs
 
 plus-requires : tie.Need-plus-requires Inv-loop μ-loop
 plus-requires c κs = search needs
@@ -64,7 +64,7 @@ replaced-spec =
     minus-requires
     lasts-requires
     returns
-    arc-requires
+    renewal-requires
     plus-requires
     mul-start
     array-read-start

@@ -5,10 +5,10 @@ use Rattle.test_listing.proofs.compared.same_bytes.Statement.{statement
 use Rattle.test_listing.proofs.compared.same_bytes.Tie as tie
 
 abbrev Inv-loop : tie.InvT-loop
-Inv-loop a b k₀ k = k ≤ 278
+Inv-loop a b k₀ k = k ≤ 302
 
 abbrev μ-loop : tie.MeasureT-loop
-μ-loop a b k₀ k = 278 - k
+μ-loop a b k₀ k = 302 - k
 
 loop-holds : tie.Need-loop-holds Inv-loop μ-loop
 loop-holds c = search needs
