@@ -282,18 +282,24 @@ mod tests {
     use crate::removals::change_the_chain;
     use std::collections::BTreeSet;
 
+    type Make = fn(&mut Random) -> Vec<u8>;
+
+    /// Kinds of which half are of version 2.
+    const HALF_AND_HALF: [Make; 8] = [
+        small_sheet,
+        chained_sheet,
+        brief_sheet,
+        long_sheet,
+        corner_sheet,
+        frequent_sheet,
+        steep_sheet,
+        motors_sheet,
+    ];
+
     #[test]
     fn sheets_pass() {
         let mut random = Random(8);
-        let all = [
-            small_sheet,
-            chained_sheet,
-            brief_sheet,
-            long_sheet,
-            corner_sheet,
-            frequent_sheet,
-            steep_sheet,
-            motors_sheet,
+        let further: [Make; 7] = [
             brief_motors_sheet,
             corner_motors_sheet,
             frequent_motors_sheet,
@@ -302,7 +308,7 @@ mod tests {
             corner_removal_sheet,
             frequent_removal_sheet,
         ];
-        for make in all {
+        for make in HALF_AND_HALF.into_iter().chain(further) {
             for _ in 0..1_000 {
                 let mut sheet = make(&mut random);
                 assert_eq!(check(&sheet).number, 0);
@@ -313,7 +319,7 @@ mod tests {
     }
 
     /// How many sheets of a kind are of version 2, in hundredths.
-    fn of_version_2(make: fn(&mut Random) -> Vec<u8>) -> usize {
+    fn of_version_2(make: Make) -> usize {
         let mut random = Random(11);
         let sheets = (0..1_000).map(|_| make(&mut random));
         sheets
@@ -324,25 +330,14 @@ mod tests {
 
     #[test]
     fn both_versions_half_and_half() {
-        let all = [
-            valid_sheet,
-            small_sheet,
-            chained_sheet,
-            brief_sheet,
-            long_sheet,
-            corner_sheet,
-            frequent_sheet,
-            steep_sheet,
-            motors_sheet,
-        ];
-        for make in all {
+        for make in HALF_AND_HALF.into_iter().chain([valid_sheet as Make]) {
             assert!((45..=55).contains(&of_version_2(make)));
         }
         assert_eq!(of_version_2(removal_sheet), 100);
     }
 
     /// How many chains removals change, of a hundred sheets of a kind.
-    fn changed_chains(make: fn(&mut Random) -> Vec<u8>) -> usize {
+    fn changed_chains(make: Make) -> usize {
         let mut random = Random(12);
         let sheets = (0..100).map(|_| checked(&make(&mut random)).expect("a sheet"));
         let changed = sheets.filter(|sheet| change_the_chain(sheet, &planned(sheet)));
