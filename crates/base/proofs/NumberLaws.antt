@@ -9,7 +9,7 @@
 --     sets_byte, sets_no_byte      one byte of a number more is stored, and none, as a loop stores them
 -- Assumes nothing.
 use Prim.Native.Nat.{ℕ, ◌+◌, zero, suc, ◌*◌, ◌/◌, ◌%◌, ◌^◌, ◌<◌, ◌≤◌, ◌-◌}
-use mathlib.Core.Path.{◌≡◌, refl, ap, ap₂, ◌∙◌, sym}
+use mathlib.Core.Path.{◌≡◌, refl, ap, ap₂, ◌∙◌, sym, subst}
 use mathlib.Core.List.{List, [], ◌∷◌, ◌++◌, head-eq_of_cons-eq, tail-eq_of_cons-eq}
 use mathlib.Core.Logic.{◌↔◌}
 use native.Mathlib.Omega.{arith}
@@ -57,7 +57,8 @@ unfolding bytes_at
 bytes_at-rest l [] at h = refl
 bytes_at-rest l (x ∷ xs) at h =
     ap₂ (λ (y : ℕ) (ys : List ℕ). y ∷ ys) (get_or_at l x xs 0 at h)
-    (rw (← append_snoc l x xs) (bytes_at-rest (l ++ (x ∷ [])) xs (at + 1) (simp length-append (omega arith))))
+    (subst (λ (ys : List ℕ). bytes_at ys (at + 1) (length xs) ≡ xs) (append_snoc l x xs)
+    (bytes_at-rest (l ++ (x ∷ [])) xs (at + 1) (simp length-append (omega arith))))
 
 -- a u16 is a number in two bytes
 pub u16_at_number : (s : List ℕ) (at : ℕ) → u16_at s at ≡ number_at s at 2

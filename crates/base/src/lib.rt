@@ -1,6 +1,8 @@
 // What the crates above stand on: what a call answers, numbers in bytes, and the smaller and the larger of two numbers.
 // Nothing here is a public call: the functions serve the crates above, which meet what they require.
 
+#![tactic(auto)]
+
 ghost use Rattle.std.specs.Prelude.{◌≡◌};
 ghost use Rattle.base.specs.Answer.{accepted, refused};
 
@@ -8,7 +10,7 @@ pub mod numbers;
 pub mod order;
 
 // Number 0 and option 3: accepted, with the total. Any other number: refused, with total 0.
-#[derive(Drop)]
+#[derive(Clone, Copy)]
 pub struct Answer {
     pub total: u64,
     pub number: u8,

@@ -33,6 +33,7 @@ pub fn u8_at(s: &[u8], at: usize) -> u64
 }
 
 // The u16 at `at`.
+#[tactic(auto, unfolding(crate::specs::Numbers::u16_at))]
 pub fn u16_at(s: &[u8], at: usize) -> u64
     requires { at + 2 ≤ length s.now }
     ensures { (result ≡ u16_at s.now at) × (result < 65_536) }
@@ -41,6 +42,7 @@ pub fn u16_at(s: &[u8], at: usize) -> u64
 }
 
 // The u32 at `at`.
+#[tactic(auto, unfolding(crate::specs::Numbers::u32_at))]
 pub fn u32_at(s: &[u8], at: usize) -> u64
     requires { at + 4 ≤ length s.now }
     ensures { (result ≡ u32_at s.now at) × (result < 4_294_967_296) }

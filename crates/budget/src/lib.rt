@@ -1,5 +1,7 @@
 // What a plan pays year by year: document 02, request 2. The public call is `budget`.
 
+#![tactic(auto)]
+
 ghost use Rattle.std.specs.Prelude.{◌≡◌};
 ghost use Rattle.budget.specs.Budget.{last_in_cents, roomy, budget_answer, units_after, cents_after};
 ghost use Rattle.budget.specs.Promises.{PromisedBudget};

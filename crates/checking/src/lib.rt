@@ -1,6 +1,8 @@
 // Checking a planning sheet: refusals 1 to 9 of document 01's 'Refusal table'.
 // The public call is `check`.
 
+#![tactic(auto)]
+
 ghost use Rattle.std.specs.Prelude.{◌≡◌, ◌↔◌};
 ghost use Rattle.base.specs.Answer.{accepted, refused};
 ghost use Rattle.checking.specs.Refusals.{checked};

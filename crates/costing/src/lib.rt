@@ -2,6 +2,8 @@
 // The public call is `cost`. The structs with their methods, `keeps_motors`, `pays_removal`, `kept_of`, `arc_cost`, `arc::running`
 // and `offer::offered` serve the crates above.
 
+#![tactic(auto)]
+
 ghost use Rattle.std.specs.Prelude.{◌≡◌, ◌↔◌, ◌-◌, ◌*◌, ◌≤◌};
 ghost use Rattle.sheet.specs.Sheet.{PlanningSheet, sheet_of};
 ghost use Rattle.sheet.specs.Parsed.{parsed};
@@ -23,7 +25,7 @@ pub mod offer;
 
 // An option kept from a year on: an arc whose end is not given yet. `discount` is 1,000,000 + the real discount rate, and `since` the year
 // since which its motors are in service.
-#[derive(Drop)]
+#[derive(Clone, Copy)]
 pub struct Kept {
     pub terms: Terms,
     pub discount: u64,
@@ -32,7 +34,7 @@ pub struct Kept {
 }
 
 // An arc so far: what it has cost, and where its running amounts stand.
-#[derive(Drop)]
+#[derive(Clone, Copy)]
 pub struct Walk {
     pub cost: Units,
     pub maintenance: Units,

@@ -1,6 +1,8 @@
 // Division of 64-bit numbers by one divisor many times: one multiplication by a reciprocal that is made once.
 // Nothing here is a public call: `Divisor` serves the crates above, which meet what it requires.
 
+#![tactic(auto)]
+
 ghost use Rattle.std.specs.Prelude.{◌≡◌, ◌*◌, ◌/◌, ◌^◌, ◌≤◌};
 ghost use Rattle.division.specs.Division.{DivisorReady};
 
@@ -12,7 +14,7 @@ const TWO_32: u64 = 4_294_967_296;
 const TWO_51: u64 = 2_251_799_813_685_248;
 
 // A divisor, and 2^83 over it to the nearest whole number. `more` is 1 where that lies below 2^83 over the divisor, else 0.
-#[derive(Drop)]
+#[derive(Clone, Copy)]
 pub struct Divisor {
     pub by: u64,
     pub inverse: u64,

@@ -1,6 +1,8 @@
 // Present-worth factors, stepped year by year: document 02, request 5.
 // Nothing here is a public call: `stepped` serves the crates above, which meet what it requires.
 
+#![tactic(auto)]
+
 ghost use Rattle.std.specs.Prelude.{◌≡◌, ◌≤◌};
 ghost use Rattle.factors.specs.PresentWorth.{largest_rate, present_worth};
 

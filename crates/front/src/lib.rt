@@ -1,6 +1,8 @@
 // The chosen chain of a sheet, by the paper's nested choice: the words have the replacements from each year, renovating is chosen by them,
 // and maintaining by renovating. Nothing here is a public call: `best_front` and `ends_from` serve the planner, which meets what they require.
 
+#![tactic(auto)]
+
 ghost use Rattle.std.specs.Prelude.{◌≡◌, ◌≤◌, length};
 ghost use Rattle.sheet.specs.Sheet.{PlanningSheet};
 ghost use Rattle.sheet.specs.Parsed.{parsed};
@@ -17,7 +19,7 @@ mod maintaining;
 mod renovating;
 
 // How the chosen chain begins: its total, the end of maintaining and the end of renovating.
-#[derive(Drop)]
+#[derive(Clone, Copy)]
 pub struct Front {
     pub total: u64,
     pub i: u64,

@@ -1,6 +1,8 @@
 // A plan as lines of text: document 01, the program `planshow`. `plan_lines` ends on every input and asks nothing; `text` serves the crate
 // above, which meets what it requires.
 
+#![tactic(auto)]
+
 ghost use Rattle.std.specs.Prelude.{◌≡◌};
 ghost use Rattle.lines.specs.Texts.{lines_after, lines_length, AtFront};
 

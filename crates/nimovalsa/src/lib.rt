@@ -4,6 +4,8 @@
 // This page is all that is claimed of the six calls, for every input. The names below say where each definition stands. `now x.entry` is
 // what a buffer holds before the call and `now x.exit` after it; `answer_in r` is the total, number and option in what is returned.
 
+#![tactic(auto)]
+
 ghost use Rattle.std.specs.Prelude.{◌≡◌, ◌↔◌, ℕ};
 ghost use Rattle.base.specs.Answer.{Packs};
 ghost use Rattle.sheet.specs.Sheet.{sheet_of};

@@ -1,6 +1,8 @@
 // Money of the year, in cents: document 02, request 2, its second list. A rate is given by its factor in millionths; `general` is 1,000,000 +
 // general inflation. Nothing here is a public call: `Cents` and `paid_once` serve the crates above, which meet what they require.
 
+#![tactic(auto)]
+
 ghost use Rattle.std.specs.Prelude.{◌≡◌, ◌≤◌, ◌*◌};
 ghost use Rattle.steps.specs.Step.{repeated};
 ghost use Rattle.steps.specs.Payment.{once};
@@ -8,7 +10,7 @@ ghost use Rattle.nominal.specs.Nominal.{risen, nominal_plain, nominal_in_service
 ghost use Rattle.nominal.specs.Fit.{most_cents, CentsFit};
 
 // An amount in cents of the year in which it is paid. It is no present value: nothing takes it together with `Units`.
-#[derive(Drop)]
+#[derive(Clone, Copy)]
 pub struct Cents(pub u64);
 
 // A rate, rounded up to a whole cent.

@@ -1,5 +1,7 @@
 // Planning: document 01, 'Feasible chains'. The public call is `plan`.
 
+#![tactic(auto)]
+
 ghost use Rattle.std.specs.Prelude.{◌≡◌};
 ghost use Rattle.planning.specs.Planning.{plan_answer, plan_after, words_after};
 ghost use Rattle.planner.specs.Promises.{Promised};

@@ -1,6 +1,8 @@
 // Reads a sheet on standard input and prints its plan, or its refusal: document 01, the program `planshow`. One byte more than the longer
 // sheet is read, so that a longer input has the wrong length too.
 
+#![tactic(auto)]
+
 const IN: i32 = 0;
 
 const OUT: i32 = 1;

@@ -1,6 +1,8 @@
 // What the chain in plan bytes costs, if they are a feasible chain: document 01, 'Pricing and costing'.
 // The public call is `price`.
 
+#![tactic(auto)]
+
 ghost use Rattle.std.specs.Prelude.{◌≡◌, ◌↔◌, ℕ};
 ghost use Rattle.sheet.specs.Sheet.{sheet_of};
 ghost use Rattle.chain.specs.Error.{TotalNear};

@@ -1,5 +1,7 @@
 // The plan or the refusal of a sheet as lines of text: document 01, the program `planshow`. The function ends on every input and asks nothing.
 
+#![tactic(auto)]
+
 ghost use Rattle.std.specs.Prelude.{◌≡◌, ◌≤◌, length, take};
 ghost use Rattle.lines.specs.Texts.{text_for, AtFront};
 ghost use Rattle.printing.specs.Showing.{text_after, text_length, Shows};

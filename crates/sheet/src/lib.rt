@@ -1,6 +1,8 @@
 // A planning sheet of 278 or 302 bytes, read into structs by value. Document 01, 'The planning sheet', and document 02, request 6.
 // Nothing here is a public call: `parse` and the readers of single fields serve the crates above, which meet what they require.
 
+#![tactic(auto)]
+
 ghost use Rattle.std.specs.Prelude.{◌≡◌, ◌+◌, ◌<◌};
 ghost use Rattle.sheet.specs.Layout.{is_long, Sized, RecordAt};
 ghost use Rattle.sheet.specs.Sheet.{sheet_of};
@@ -33,7 +35,7 @@ pub const RENOVATE: u64 = 1;
 pub const REPLACE: u64 = 2;
 
 // An amount with the factors of its rates: `grow` is 1,000,000 + inflation, `age` is 1,000,000 + ageing.
-#[derive(Drop)]
+#[derive(Clone, Copy)]
 pub struct Flow {
     pub amount: u64,
     pub grow: u64,
@@ -41,7 +43,7 @@ pub struct Flow {
 }
 
 // The overhauls of an option; the first `count` of the eight are used.
-#[derive(Drop)]
+#[derive(Clone, Copy)]
 pub struct Overhauls {
     pub grow: u64,
     pub count: u64,
@@ -50,7 +52,7 @@ pub struct Overhauls {
 }
 
 // What an option's record says.
-#[derive(Drop)]
+#[derive(Clone, Copy)]
 pub struct Terms {
     pub shortest: u64,
     pub longest: u64,
@@ -62,7 +64,7 @@ pub struct Terms {
 }
 
 // What a sheet says; `discount` is 1,000,000 + the real discount rate.
-#[derive(Drop)]
+#[derive(Clone, Copy)]
 pub struct Sheet {
     pub horizon: u64,
     pub discount: u64,

@@ -2,6 +2,8 @@
 // discount factor as a divisor. Nothing here is a public call: `Units`, `up` and `paid_once` serve the crates above, which meet what they
 // require.
 
+#![tactic(auto)]
+
 ghost use Rattle.std.specs.Prelude.{◌≡◌, ◌<◌, ◌≤◌, ◌+◌, ◌*◌};
 ghost use Rattle.division.specs.Division.{DivisorReady};
 ghost use Rattle.steps.specs.Step.{divided, plain, in_service, repeated};
@@ -11,7 +13,7 @@ ghost use Rattle.steps.specs.Fit.{PlainFits, ServiceFits};
 use division::Divisor;
 
 // A present value in units: a currency unit is 10,000 of them.
-#[derive(Drop)]
+#[derive(Clone, Copy)]
 pub struct Units(pub u64);
 
 // n / d, rounded up to a whole number.

@@ -1,6 +1,8 @@
 // The value of each amount of an option in every year, stepped once; and an arc that is opened from these values and takes its overhauls
 // from them. Nothing here is a public call: the crates above meet what is required.
 
+#![tactic(auto)]
+
 ghost use Rattle.std.specs.Prelude.{◌≡◌, ◌+◌, ◌<◌, ◌≤◌, length};
 ghost use Rattle.checking.specs.Fit.{TermsFit};
 ghost use Rattle.division.specs.Division.{DivisorReady};
@@ -25,7 +27,7 @@ pub const PLACES: usize = 12 * YEARS;
 const REMOVALS: usize = 11 * YEARS;
 
 // What the overhauls of a year cost, and which overhaul falls next.
-#[derive(Drop)]
+#[derive(Clone, Copy)]
 pub struct Fallen {
     pub units: Units,
     pub next: usize,

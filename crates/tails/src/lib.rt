@@ -1,6 +1,8 @@
 // The cheapest replacements from every year to the horizon: the words that planning lends, and the first ends that it keeps for itself.
 // Nothing here is a public call: `tail_words` serves the planner, which meets what it requires.
 
+#![tactic(auto)]
+
 ghost use Rattle.std.specs.Prelude.{◌≡◌, ◌≤◌, length};
 ghost use Rattle.sheet.specs.Layout.{year_places};
 ghost use Rattle.sheet.specs.Sheet.{PlanningSheet};

@@ -3,6 +3,8 @@
 // the price. A small sheet, whose last word in cents tells the order of the rates; and sheets with removals. General inflation and the lengths of
 // the lists at their limits, the order of the refusals, and what a refused call leaves.
 
+#![tactic(auto)]
+
 mod lengths;
 mod paper;
 mod refusals;

@@ -6,7 +6,7 @@ use test_sheets::paper::sheet;
 use test_sheets::plans::plan;
 
 // What both lists hold after a call.
-#[derive(Drop)]
+#[derive(Clone, Copy)]
 struct Lists {
     units: [u64; 303],
     cents: [u64; 18],

@@ -2,6 +2,8 @@
 // Among them are the run-only cases of document 01 (T 300, 301 and 0; r 40,000 with f and with g 40,000 and 40,001) and every
 // refusal at every option, those of a removal too. The sheet that each case changes: T 300, r 40,000, no option offered, every other field 0.
 
+#![tactic(auto)]
+
 ghost use Rattle.std.specs.Prelude.{◌≤◌};
 
 use test_sheets::{MAINTAIN_AT, RENOVATE_AT, REPLACE_AT, longer};

@@ -2,6 +2,8 @@
 // renovations whose motors go on ageing; removals; the paper's case study, whose arcs cost less than a euro from the present values of its
 // Table 5; and each way into refusal 13, at its limit.
 
+#![tactic(auto)]
+
 mod motors;
 mod paper;
 mod refusals;

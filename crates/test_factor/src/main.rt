@@ -1,6 +1,8 @@
 // Runs `factor` and prints an answer a line; the file `stdout` beside `src` has the lines expected. The usual rates and those beside them, the
 // first and the last rates and years, and each way into refusals 4 and 13, at its limit and far above it.
 
+#![tactic(auto)]
+
 use test_sheets::show::{answer_as, number};
 
 const OUT: i32 = 1;

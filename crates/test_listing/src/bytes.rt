@@ -1,7 +1,7 @@
 // Bytes that are written one field after the other.
 
 // The next field goes to `at`. Past the end nothing is written; the sheets and plans of this program end before or at it.
-#[derive(Drop)]
+#[derive(Clone, Copy)]
 pub struct Bytes {
     pub bytes: [u8; 302],
     pub at: usize,

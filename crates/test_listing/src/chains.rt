@@ -5,7 +5,7 @@ use crate::figures::{Figures, Terms};
 use crate::numbers::{minus, plus};
 
 // Maintain up to i, renovate up to j, then replacements up to each of the ends. Ends at or past the count are 0.
-#[derive(Drop)]
+#[derive(Clone, Copy)]
 pub struct Chain {
     pub i: u64,
     pub j: u64,
@@ -13,7 +13,7 @@ pub struct Chain {
     pub ends: [u64; 8],
 }
 
-#[derive(Drop)]
+#[derive(Clone, Copy)]
 pub struct Price {
     pub feasible: bool,
     pub total: u64,

@@ -11,7 +11,7 @@ use base::Answer;
 
 // How many sheets were compared, how many of them were of version 2, how many had a feasible chain and how many none, on how many several chains had
 // the least total, on how many another chain is taken without removals, how many chains were listed, and how many differences there were.
-#[derive(Drop)]
+#[derive(Clone, Copy)]
 pub struct Tally {
     pub sheets: u64,
     pub version_2: u64,
@@ -56,7 +56,7 @@ impl Tally {
 }
 
 // What `plan` answers and writes; one word more is lent than it wants.
-#[derive(Drop)]
+#[derive(Clone, Copy)]
 struct Outcome {
     answer: Answer,
     plan: [u8; 302],

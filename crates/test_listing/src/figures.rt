@@ -2,7 +2,7 @@
 // 1,000,000 + g.
 
 // Maintenance or electricity.
-#[derive(Drop)]
+#[derive(Clone, Copy)]
 pub struct Yearly {
     pub amount: u64,
     pub growth: u64,
@@ -10,7 +10,7 @@ pub struct Yearly {
 }
 
 // Ages and amounts at or past the count are 0.
-#[derive(Drop)]
+#[derive(Clone, Copy)]
 pub struct Overhauls {
     pub growth: u64,
     pub count: usize,
@@ -19,7 +19,7 @@ pub struct Overhauls {
 }
 
 // 0 and without inflation on a sheet of version 1, which has no removals.
-#[derive(Drop)]
+#[derive(Clone, Copy)]
 pub struct Removal {
     pub amount: u64,
     pub growth: u64,
@@ -30,7 +30,7 @@ pub const NO_REMOVAL: Removal = Removal {
     growth: 1_000_000,
 };
 
-#[derive(Drop)]
+#[derive(Clone, Copy)]
 pub struct Terms {
     pub shortest: u64,
     pub longest: u64,
@@ -42,7 +42,7 @@ pub struct Terms {
     pub removal: Removal,
 }
 
-#[derive(Drop)]
+#[derive(Clone, Copy)]
 pub struct Figures {
     pub version: u64,
     pub horizon: u64,

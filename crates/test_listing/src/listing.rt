@@ -8,7 +8,7 @@ use crate::numbers::{at_most, minus, plus};
 const SETS: [u64; 9] = [1, 2, 4, 8, 16, 32, 64, 128, 256];
 
 // The feasible chains so far: how many, the chain taken, its total, and how many have that total.
-#[derive(Drop)]
+#[derive(Clone, Copy)]
 pub struct Best {
     pub listed: u64,
     pub chain: Chain,

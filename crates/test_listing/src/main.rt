@@ -4,6 +4,8 @@
 // bytes and words. The listing shares no code with the library. The file `stdout` beside `src` has the lines expected; each difference prints a
 // line of its own.
 
+#![tactic(auto)]
+
 mod arcs;
 mod bytes;
 mod chains;

@@ -3,7 +3,7 @@
 use crate::numbers::{at_most, minus, plus};
 
 // What is drawn once for a sheet: the rate r; whether all its inflations and ageings are 0; and the number that amounts stay below.
-#[derive(Drop)]
+#[derive(Clone, Copy)]
 pub struct Manner {
     pub rate: u64,
     pub flat: bool,

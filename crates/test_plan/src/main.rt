@@ -2,6 +2,8 @@
 // document 01, and case 12 with buffers at their limits; the paper's case study, its plan priced, and its sheet with replace not offered;
 // sheets on which maintaining and renovating are taken; sheets with removals; faulty sheets; and the words that are lent.
 
+#![tactic(auto)]
+
 mod document;
 mod faulty;
 mod paper;

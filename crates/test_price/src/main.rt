@@ -2,6 +2,8 @@
 // chain, less than two euros above the total of its Tables 5 and 6, and other chains of the same sheet; chains that pay removals; and each way into
 // refusal 14, at its limit.
 
+#![tactic(auto)]
+
 mod chains;
 mod refusals;
 mod removals;

@@ -1,5 +1,7 @@
 // For the test programs: sheets and plans made by setting fields, and the lines that are printed.
 
+#![tactic(auto)]
+
 ghost use Rattle.std.specs.Prelude.{◌+◌, ◌≤◌};
 
 pub mod document;

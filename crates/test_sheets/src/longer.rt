@@ -12,7 +12,7 @@ pub const RENOVATE_AT: usize = 108;
 pub const REPLACE_AT: usize = 205;
 
 // A removal amount and its inflation, whose four bytes are those of an i32.
-#[derive(Drop)]
+#[derive(Clone, Copy)]
 pub struct Removal {
     pub amount: u64,
     pub inflation: u64,

@@ -5,7 +5,7 @@ ghost use Rattle.std.specs.Prelude.{◌+◌, ◌≤◌};
 use crate::{MAINTAIN_AT, RENOVATE_AT, REPLACE_AT, lives, plain, put8, put16, put32};
 
 // What differs from option to option; electricity does not age.
-#[derive(Drop)]
+#[derive(Clone, Copy)]
 struct Figures {
     longest: u64,
     investment: u64,

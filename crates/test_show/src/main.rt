@@ -1,6 +1,8 @@
 // Runs `show`, which is all that `planshow` does, on the sheets in `data`, and prints each one's name and lines; the file `stdout` beside
 // `src` has the lines expected. `tests/desk/shown.py` says what each sheet holds.
 
+#![tactic(auto)]
+
 const OUT: i32 = 1;
 
 fn heading(name: &[u8]) {

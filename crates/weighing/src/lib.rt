@@ -1,6 +1,8 @@
 // The choice of the end of one option, any option, by the totals behind the ends.
 // Nothing here is a public call: the crates above meet what is required.
 
+#![tactic(auto)]
+
 ghost use Rattle.std.specs.Prelude.{◌≡◌, ◌+◌, ◌-◌, ◌^◌, ◌<◌, ◌≤◌, cond};
 ghost use Rattle.choice.specs.Running.{no_total, weigh};
 ghost use Rattle.weighing.specs.Best.{numbers};
@@ -15,7 +17,7 @@ pub mod ahead;
 pub mod arcs;
 
 // A least total, and the end of the first activity of the list that has it.
-#[derive(Drop)]
+#[derive(Clone, Copy)]
 pub struct Best {
     pub total: u64,
     pub end: u64,

@@ -1,6 +1,8 @@
 // The yearbook of present-worth factors: document 02, request 5. The usual public rates are looked up in a table, every other rate is stepped.
 // The public call is `factor`.
 
+#![tactic(auto)]
+
 ghost use Rattle.std.specs.Prelude.{◌≡◌, ◌<◌, ◌≤◌};
 ghost use Rattle.factors.specs.PresentWorth.{largest_rate, present_worth};
 ghost use Rattle.yearbook.specs.Yearbook.{last_year, usual_rates, usual_rate, factor_answer};

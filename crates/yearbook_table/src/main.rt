@@ -1,6 +1,8 @@
 // Prints the table of the yearbook as it stands in its source, crates/yearbook/src/table.rt. Every factor is stepped: the crate that holds the
 // table is none of those that this program stands on.
 
+#![tactic(auto)]
+
 ghost use Rattle.std.specs.Prelude.{◌≤◌};
 
 const OUT: i32 = 1;
