@@ -18,11 +18,11 @@ use Rattle.checking.proofs.CheckLaws.{check_answers, discount_small, next_overha
 use Rattle.checking.proofs.check.Statement.{statement}
 use Rattle.checking.proofs.check.Tie as tie
 
-abbrev invariant-loop : tie.invariant-loop
+abbrev invariant-loop : tie.invariant-loop-j
 invariant-loop sheet header discount k o number count last₀ j₀ last j =
     (j ≤ 8) × (last ≡ age_before ((sheet_of sheet).option k) j) × (first_below j (overhaul_answer ((sheet_of sheet).option k) k) ≡ accepted 0)
 
-abbrev decreases-loop : tie.decreases-loop
+abbrev decreases-loop : tie.decreases-loop-j
 decreases-loop sheet header discount k o number count last₀ j₀ last j = 8 - j
 
 abbrev invariant-options : tie.invariant-options
@@ -31,39 +31,39 @@ invariant-options sheet header discount k₀ k = (k ≤ 3) × (first_below k (op
 abbrev decreases-options : tie.decreases-options
 decreases-options sheet header discount k₀ k = 3 - k
 
-header-passed : (c : tie.Else1 invariant-loop decreases-loop invariant-options decreases-options) → header_number c.before.before.before.args.sheet.now ≡ 0
-header-passed c = sym c.before.header-number.ensures ∙ c.if1.false
+header-passed : (c : tie.Else-header-ne0 invariant-loop decreases-loop invariant-options decreases-options) → header_number c.before.before.before.args.sheet.now ≡ 0
+header-passed c = sym c.before.header_number-header.ensures ∙ c.if-header-ne0.false
 
-long : (c : tie.Else1 invariant-loop decreases-loop invariant-options decreases-options) → Sized c.before.before.before.args.sheet.now
+long : (c : tie.Else-header-ne0 invariant-loop decreases-loop invariant-options decreases-options) → Sized c.before.before.before.args.sheet.now
 long c = header_sized _ ((header-iff _).0 (header-passed c))
 
 -- the number of option k's fields, and the test of its entry j, over the sheet
 fields-found :
-    (c : tie.After-fields-number invariant-loop decreases-loop invariant-options decreases-options) →
+    (c : tie.After-fields_number-number invariant-loop decreases-loop invariant-options decreases-options) →
     let p = sheet_of c.before.before.before.before.before.before.before.before.args.sheet.now in
-    c.fields-number.result ≡ fields_number p.rate (p.option c.before.before.before.options.k)
-fields-found c = c.fields-number.ensures _ _ c.before.before.before.before.discount-of.ensures c.before.terms-of.ensures
+    c.fields_number-number.result ≡ fields_number p.rate (p.option c.before.before.before.options.k)
+fields-found c = c.fields_number-number.ensures _ _ c.before.before.before.before.discount_of-discount.ensures c.before.terms_of-terms.ensures
 
 entry_found :
-    (c : tie.After-entry-ok invariant-loop decreases-loop invariant-options decreases-options) →
+    (c : tie.After-entry_ok invariant-loop decreases-loop invariant-options decreases-options) →
     let f = c.before.before.before.before.before.before in
     let o = (sheet_of f.before.before.before.before.before.before.before.before.args.sheet.now).option f.before.before.before.options.k in
-    c.entry-ok.result ≡ overhaul_ok o c.before.before.before.before.loop.j
+    c.entry_ok.result ≡ overhaul_ok o c.before.before.before.before.loop-j.j
 unfolding terms_of overhauls_of
 entry_found c =
-    let count = ap (λ (t : Terms). t.overhauls.count) c.before.before.before.before.before.before.before.terms-of.ensures in
-    entry_tested _ _ c.entry-ok.ensures count c.before.before.before.before.loop.invariant.1 c.before.before.age_of_lem.ensures c.before.amount-of.ensures
+    let count = ap (λ (t : Terms). t.overhauls.count) c.before.before.before.before.before.before.before.terms_of-terms.ensures in
+    entry_tested _ _ c.entry_ok.ensures count c.before.before.before.before.loop-j.invariant.1 c.before.before.age_of-age.ensures c.before.amount_of-amount.ensures
 
-header-number-requires : tie.Need-header-number-requires invariant-loop decreases-loop invariant-options decreases-options
+header-number-requires : tie.Need-header_number-header-requires invariant-loop decreases-loop invariant-options decreases-options
 header-number-requires c κs = search rules
 
 refused-requires : tie.Need-refused-requires invariant-loop decreases-loop invariant-options decreases-options
 refused-requires c κs = search rules
 
-returns : tie.Need-returns invariant-loop decreases-loop invariant-options decreases-options
-returns c = check_answers _ _ _ c.refused.ensures (header_refused _ _ c.before.before.header-number.ensures c.before.if1.true)
+returns : tie.Need-returns-then-header-ne0 invariant-loop decreases-loop invariant-options decreases-options
+returns c = check_answers _ _ _ c.refused.ensures (header_refused _ _ c.before.before.header_number-header.ensures c.before.if-header-ne0.true)
 
-discount-of-requires : tie.Need-discount-of-requires invariant-loop decreases-loop invariant-options decreases-options
+discount-of-requires : tie.Need-discount_of-discount-requires invariant-loop decreases-loop invariant-options decreases-options
 discount-of-requires c κs = long c
 
 options-holds : tie.Need-options-init invariant-loop decreases-loop invariant-options decreases-options
@@ -72,47 +72,47 @@ options-holds c = (omega arith, first_zero _)
 accepted-requires : tie.Need-accepted-requires invariant-loop decreases-loop invariant-options decreases-options
 accepted-requires c κs = search rules
 
-cast-o : tie.Need-overflow-cast-o invariant-loop decreases-loop invariant-options decreases-options
+cast-o : tie.Need-overflow_cast-o invariant-loop decreases-loop invariant-options decreases-options
 cast-o c = search rules
 
-terms-of-requires : tie.Need-terms-of-requires invariant-loop decreases-loop invariant-options decreases-options
+terms-of-requires : tie.Need-terms_of-terms-requires invariant-loop decreases-loop invariant-options decreases-options
 terms-of-requires c κs = (long c.before.before.before, omega arith)
 
-fields-number-requires : tie.Need-fields-number-requires invariant-loop decreases-loop invariant-options decreases-options
-fields-number-requires c κs = discount_small _ _ c.before.before.before.discount-of.ensures (header-passed c.before.before.before.before)
+fields-number-requires : tie.Need-fields_number-number-requires invariant-loop decreases-loop invariant-options decreases-options
+fields-number-requires c κs = discount_small _ _ c.before.before.before.discount_of-discount.ensures (header-passed c.before.before.before.before)
 
-refused-requires-2 : tie.Need-refused-requires-2 invariant-loop decreases-loop invariant-options decreases-options
+refused-requires-2 : tie.Need-refused-requires-then-number-ne0 invariant-loop decreases-loop invariant-options decreases-options
 refused-requires-2 c κs = search rules
 
-loop-holds : tie.Need-loop-init invariant-loop decreases-loop invariant-options decreases-options
+loop-holds : tie.Need-loop-j-init invariant-loop decreases-loop invariant-options decreases-options
 loop-holds c = (omega arith, age_before_zero _, first_zero _)
 
-age-of-requires : tie.Need-age-of-requires invariant-loop decreases-loop invariant-options decreases-options
+age-of-requires : tie.Need-age_of-age-requires invariant-loop decreases-loop invariant-options decreases-options
 age-of-requires c κs = (long c.before.before.before.before.before.before.before.before, omega arith, omega arith)
 
-amount-of-requires : tie.Need-amount-of-requires invariant-loop decreases-loop invariant-options decreases-options
+amount-of-requires : tie.Need-amount_of-amount-requires invariant-loop decreases-loop invariant-options decreases-options
 amount-of-requires c κs = (long c.before.before.before.before.before.before.before.before.before, omega arith, omega arith)
 
-entry-ok-requires : tie.Need-entry-ok-requires invariant-loop decreases-loop invariant-options decreases-options
+entry-ok-requires : tie.Need-entry_ok-requires invariant-loop decreases-loop invariant-options decreases-options
 entry-ok-requires c κs = search rules
 
-refused-requires-3 : tie.Need-refused-requires-3 invariant-loop decreases-loop invariant-options decreases-options
+refused-requires-3 : tie.Need-refused-requires-then-not-entry_ok invariant-loop decreases-loop invariant-options decreases-options
 refused-requires-3 c κs = search rules
 
-add-j : tie.Need-overflow-add-j invariant-loop decreases-loop invariant-options decreases-options
+add-j : tie.Need-overflow_add-j invariant-loop decreases-loop invariant-options decreases-options
 add-j c = search rules
 
-loop-less : tie.Need-loop-smaller invariant-loop decreases-loop invariant-options decreases-options
+loop-less : tie.Need-loop-j-smaller invariant-loop decreases-loop invariant-options decreases-options
 loop-less c = search rules
 
-loop-again : tie.Need-loop-preserved invariant-loop decreases-loop invariant-options decreases-options
+loop-again : tie.Need-loop-j-preserved invariant-loop decreases-loop invariant-options decreases-options
 loop-again c = (
   omega arith,
-  (omega arith) ∙ age_before_suc _ _ c.before.before.before.age_of_lem.result c.before.before.before.age_of_lem.ensures,
-  next_overhaul _ _ _ c.before.before.before.before.before.loop.invariant.2 (sym (entry_found c.before) ∙ not-false c.before.entry-ok.result c.if4.false),
+  (omega arith) ∙ age_before_suc _ _ c.before.before.before.age_of-age.result c.before.before.before.age_of-age.ensures,
+  next_overhaul _ _ _ c.before.before.before.before.before.loop-j.invariant.2 (sym (entry_found c.before) ∙ not-false c.before.entry_ok.result c.if-not-entry_ok.false),
 )
 
-add-k : tie.Need-overflow-add-k invariant-loop decreases-loop invariant-options decreases-options
+add-k : tie.Need-overflow_add-k invariant-loop decreases-loop invariant-options decreases-options
 add-k c = search rules
 
 options-less : tie.Need-options-smaller invariant-loop decreases-loop invariant-options decreases-options
@@ -121,55 +121,27 @@ options-less c = search rules
 options-again : tie.Need-options-preserved invariant-loop decreases-loop invariant-options decreases-options
 options-again c = (
   omega arith,
-  next_option _ _ _ c.before.before.before.before.before.before.options.invariant.1 (sym (fields-found c.before.before.before) ∙ c.before.before.if3.false) (omega arith) c.before.loop.invariant.2,
+  next_option _ _ _ c.before.before.before.before.before.before.options.invariant.1 (sym (fields-found c.before.before.before) ∙ c.before.before.if-number-ne0.false) (omega arith) c.before.loop-j.invariant.2,
 )
 
-returns-2 : tie.Need-returns-2 invariant-loop decreases-loop invariant-options decreases-options
+returns-2 : tie.Need-returns-then-k-eq3 invariant-loop decreases-loop invariant-options decreases-options
 returns-2 c =
-    check_answers _ _ _ c.accepted.ensures (all_passed _ (header-passed c.before.before.before.before) _ c.before.if2.true c.before.before.options.invariant.1)
+    check_answers _ _ _ c.accepted.ensures (all_passed _ (header-passed c.before.before.before.before) _ c.before.if-k-eq3.true c.before.before.options.invariant.1)
 
-returns-3 : tie.Need-returns-3 invariant-loop decreases-loop invariant-options decreases-options
+returns-3 : tie.Need-returns-then-number-ne0 invariant-loop decreases-loop invariant-options decreases-options
 returns-3 c =
-    check_answers _ _ _ c.refused2.ensures
-    (fields_refused _ (header-passed c.before.before.before.before.before.before.before) _ (omega arith) c.before.before.before.before.before.options.invariant.1 _ (fields-found c.before.before) c.before.if3.true)
+    check_answers _ _ _ c.refused-then-number-ne0.ensures
+    (fields_refused _ (header-passed c.before.before.before.before.before.before.before) _ (omega arith) c.before.before.before.before.before.options.invariant.1 _ (fields-found c.before.before) c.before.if-number-ne0.true)
 
-returns-4 : tie.Need-returns-4 invariant-loop decreases-loop invariant-options decreases-options
+returns-4 : tie.Need-returns-then-not-entry_ok invariant-loop decreases-loop invariant-options decreases-options
 returns-4 c =
     let f = c.before.before.before.before.before.before.before.before in
-    check_answers _ _ _ c.refused3.ensures
+    check_answers _ _ _ c.refused-then-not-entry_ok.ensures
     (overhaul-refused _ (header-passed f.before.before.before.before.before) _ (omega arith) f.before.before.before.options.invariant.1 _
-    (sym (fields-found f) ∙ c.before.before.before.before.before.before.before.if3.false) (omega arith) c.before.before.before.before.before.before.loop.invariant.2
-    (sym (entry_found c.before.before) ∙ not-true c.before.before.entry-ok.result c.before.if4.true))
+    (sym (fields-found f) ∙ c.before.before.before.before.before.before.before.if-number-ne0.false) (omega arith) c.before.before.before.before.before.before.loop-j.invariant.2
+    (sym (entry_found c.before.before) ∙ not-true c.before.before.entry_ok.result c.before.if-not-entry_ok.true))
 
 pub check_spec : {M : Type 1} → statement M
 check_spec =
     tie.close
-    (tie.spec
-    invariant-loop
-    decreases-loop
-    invariant-options
-    decreases-options
-    header-number-requires
-    refused-requires
-    returns
-    discount-of-requires
-    options-holds
-    accepted-requires
-    cast-o
-    terms-of-requires
-    fields-number-requires
-    refused-requires-2
-    loop-holds
-    age-of-requires
-    amount-of-requires
-    entry-ok-requires
-    refused-requires-3
-    add-j
-    loop-less
-    loop-again
-    add-k
-    options-less
-    options-again
-    returns-2
-    returns-3
-    returns-4)
+    (tie.spec invariant-loop decreases-loop invariant-options decreases-options header-number-requires refused-requires returns discount-of-requires options-holds accepted-requires cast-o terms-of-requires fields-number-requires refused-requires-2 loop-holds age-of-requires amount-of-requires entry-ok-requires refused-requires-3 add-j loop-less loop-again add-k options-less options-again returns-2 returns-3 returns-4)

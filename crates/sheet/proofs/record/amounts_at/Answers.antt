@@ -1,0 +1,18 @@
+-- `amounts_at` reads the amounts of the eight overhauls. Assumes nothing.
+use mathlib.Core.List.{[], ◌∷◌}
+use Rattle.sheet.specs.Sheet.{overhaul_at}
+use Rattle.sheet.proofs.record.amounts_at.Goals as goal
+
+pub returns : goal.returns
+unfolding overhaul_at
+returns c =
+    λ i.
+    c.u32_at.ensures.0 i
+    ∷ c.u32_at-2.ensures.0 i
+    ∷ c.u32_at-3.ensures.0 i
+    ∷ c.u32_at-4.ensures.0 i
+    ∷ c.u32_at-5.ensures.0 i
+    ∷ c.u32_at-6.ensures.0 i
+    ∷ c.u32_at-7.ensures.0 i
+    ∷ c.u32_at-8.ensures.0 i
+    ∷ []

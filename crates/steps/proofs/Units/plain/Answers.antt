@@ -1,0 +1,17 @@
+-- A plain step: its product fits in 64 bits. Assumes nothing.
+use native.Mathlib.Omega.{arith}
+use Rattle.steps.specs.Step.{plain}
+use Rattle.steps.proofs.RoomLaws.{plain-room}
+use Rattle.steps.proofs.Units.plain.Goals as goal
+
+pub overflow_mul-self : goal.overflow_mul-self
+overflow_mul-self c = omega (arith, plain-room _ _ _ c.requires.0)
+
+pub up_by-requires : goal.up_by-requires
+up_by-requires c =
+    let s = c.requires in
+    (s.1, omega (arith, plain-room _ _ _ s.0))
+
+pub returns : goal.returns
+unfolding plain
+returns c = c.up_by.ensures
