@@ -109,7 +109,7 @@ loop-again : tie.Need-loop-j-preserved invariant-loop decreases-loop invariant-o
 loop-again c = (
   omega arith,
   (omega arith) ∙ age_before_suc _ _ c.before.before.before.age_of-age.result c.before.before.before.age_of-age.ensures,
-  next_overhaul _ _ _ c.before.before.before.before.before.loop-j.invariant.2 (sym (entry_found c.before) ∙ not-false c.before.entry_ok.result c.if-not-entry_ok.false),
+  next_overhaul _ _ _ c.before.before.before.before.before.loop-j.invariant.2 (sym (entry_found c.before) ∙ c.if-not-entry_ok.false),
 )
 
 add-k : tie.Need-overflow_add-k invariant-loop decreases-loop invariant-options decreases-options
@@ -139,7 +139,7 @@ returns-4 c =
     check_answers _ _ _ c.refused-then-not-entry_ok.ensures
     (overhaul-refused _ (header-passed f.before.before.before.before.before) _ (omega arith) f.before.before.before.options.invariant.1 _
     (sym (fields-found f) ∙ c.before.before.before.before.before.before.before.if-number-ne0.false) (omega arith) c.before.before.before.before.before.before.loop-j.invariant.2
-    (sym (entry_found c.before.before) ∙ not-true c.before.before.entry_ok.result c.before.if-not-entry_ok.true))
+    (sym (entry_found c.before.before) ∙ c.before.if-not-entry_ok.true))
 
 pub check_spec : {M : Type 1} → statement M
 check_spec =

@@ -9,7 +9,7 @@ use Rattle.nominal.proofs.risen.Tie as tie
 room : (c : tie.Start) → c.args.a * c.args.factor ≤ 6_000_000_000_000 * 1_300_000
 room c = mul-le-mul c.requires.0 c.requires.1
 
-mul-up : tie.Need-overflow-mul-up
+mul-up : tie.Need-overflow_mul-a
 mul-up c = omega (arith, room c)
 
 up-requires : tie.Need-up-requires

@@ -34,16 +34,16 @@ mark c =
 
 -- the rules hold where the code goes on
 length-passed : (c : tie.Else-not-length_ok) → length_ok (length (sheet c.before)) ≡ true
-length-passed c = sym c.before.length_ok.ensures ∙ not-false _ c.if-not-length_ok.false
+length-passed c = sym c.before.length_ok.ensures ∙ c.if-not-length_ok.false
 
 whole : (c : tie.Else-not-length_ok) → Sized (sheet c.before)
 whole c = sized _ (length-passed c)
 
 mark-passed : (c : tie.Else-not-mark_ok-version_ok) → let s = second c.before in (mark_ok s && version_ok (length s) (sheet_of s).version) ≡ true
-mark-passed c = sym (mark c.before) ∙ not-false _ c.if-not-mark_ok-version_ok.false
+mark-passed c = sym (mark c.before) ∙ c.if-not-mark_ok-version_ok.false
 
 horizon-passed : (c : tie.Else-not-horizon) → horizon_ok (sheet_of (second c.before.before.before)).horizon ≡ true
-horizon-passed c = sym (ap horizon_ok c.before.horizon_of-horizon.ensures) ∙ not-false _ c.if-not-horizon.false
+horizon-passed c = sym (ap horizon_ok c.before.horizon_of-horizon.ensures) ∙ c.if-not-horizon.false
 
 -- behind the first row, behind the first two, and behind the first three
 one-passed : (c : tie.Else-not-length_ok) → let s = sheet c.before in header_number s ≡ (2 unless mark_ok s && version_ok (length s) (sheet_of s).version else 3 unless horizon_ok (sheet_of s).horizon else 4 unless rate_ok (sheet_of s).rate else 0)
@@ -61,7 +61,7 @@ length-ok-requires c κs = search rules
 
 returns : tie.Need-returns-then-not-length_ok
 unfolding header_number
-returns c = sym (unless_stop 1 _ (sym c.before.length_ok.ensures ∙ not-true _ c.if-not-length_ok.true))
+returns c = sym (unless_stop 1 _ (sym c.before.length_ok.ensures ∙ c.if-not-length_ok.true))
 
 u16-at-requires : tie.Need-u16_at-version-requires
 u16-at-requires c κs = let long = whole c in omega arith
@@ -74,14 +74,14 @@ version-ok-requires c κs = search rules
 
 returns-2 : tie.Need-returns-then-not-mark_ok-version_ok
 returns-2 c =
-    sym (one-passed c.before.before.before.before ∙ unless_stop 2 _ (sym (mark c.before) ∙ not-true _ c.if-not-mark_ok-version_ok.true))
+    sym (one-passed c.before.before.before.before ∙ unless_stop 2 _ (sym (mark c.before) ∙ c.if-not-mark_ok-version_ok.true))
 
 horizon-of-requires : tie.Need-horizon_of-horizon-requires
 horizon-of-requires c κs = whole c.before.before.before.before
 
 returns-3 : tie.Need-returns-then-not-horizon
 returns-3 c =
-    sym (two-passed c.before.before ∙ unless_stop 3 _ (sym (ap horizon_ok c.before.horizon_of-horizon.ensures) ∙ not-true _ c.if-not-horizon.true))
+    sym (two-passed c.before.before ∙ unless_stop 3 _ (sym (ap horizon_ok c.before.horizon_of-horizon.ensures) ∙ c.if-not-horizon.true))
 
 u32-at-requires : tie.Need-u32_at-rate-requires
 u32-at-requires c κs = let long = whole c.before.before.before.before.before.before in omega arith

@@ -10,6 +10,6 @@ pub returns : goal.returns
 unfolding ageings_ok terms_of
 returns c =
     λ r o d t.
-    let m = c.ageing_ok.ensures r o.maintenance-1 d (ap (λ (v : Terms). v.maintenance-1) t) in
-    let e = c.ageing_ok-2.ensures r o.electricity-1 d (ap (λ (v : Terms). v.electricity-1) t) in
+    let m = c.ageing_ok.ensures r o.maintenance d (ap (λ (v : Terms). v.maintenance) t) in
+    let e = c.ageing_ok-2.ensures r o.electricity d (ap (λ (v : Terms). v.electricity) t) in
     λ n. m n && e n

@@ -5,9 +5,9 @@ use Rattle.checking.proofs.option.entry_ok.Goals as goal
 pub returns-then-j-count : goal.returns-then-j-count
 returns-then-j-count c =
     let a = c.args in
-    entry_used a.count a.j a a.age a.amount c.if-j-count.true
+    entry_used a.count a.j a.before a.age a.amount c.if-j-count.true
 
 pub returns : goal.returns
 returns c =
     let a = c.args in
-    entry_unused a.count a.j a a.age a.amount c.if-j-count.false
+    entry_unused a.count a.j a.before a.age a.amount c.if-j-count.false

@@ -27,20 +27,20 @@ amounts c o t = c.amounts_ok.ensures ∙ ap (λ (v : Terms). amounts_ok v.invest
 
 -- and it holds where the code goes on
 lives-passed : (c : tie.Else-not-lives_ok) (o : OptionRecord) → c.before.before.args.t ≡ terms_of o → lives_ok o.shortest o.longest ≡ true
-lives-passed c o t = sym (lives c.before o t) ∙ not-false _ c.if-not-lives_ok.false
+lives-passed c o t = sym (lives c.before o t) ∙ c.if-not-lives_ok.false
 
 amounts-passed :
     (c : tie.Else-not-amounts_ok) (o : OptionRecord) → c.before.before.before.before.args.t ≡ terms_of o →
     amounts_ok o.investment.amount o.maintenance.amount o.electricity.amount o.removal.amount ≡ true
-amounts-passed c o t = sym (amounts c.before o t) ∙ not-false _ c.if-not-amounts_ok.false
+amounts-passed c o t = sym (amounts c.before o t) ∙ c.if-not-amounts_ok.false
 
 inflations-passed :
     (c : tie.Else-not-inflations_ok) (r : ℕ) (o : OptionRecord) → c.before.before.before.before.before.before.args.discount ≡ 1_000_000 + r → c.before.before.before.before.before.before.args.t ≡ terms_of o → inflations_ok r o ≡ true
-inflations-passed c r o d t = sym (c.before.inflations_ok.ensures r o d t) ∙ not-false _ c.if-not-inflations_ok.false
+inflations-passed c r o d t = sym (c.before.inflations_ok.ensures r o d t) ∙ c.if-not-inflations_ok.false
 
 ageings-passed :
     (c : tie.Else-not-ageings_ok) (r : ℕ) (o : OptionRecord) → c.before.before.before.before.before.before.before.before.args.discount ≡ 1_000_000 + r → c.before.before.before.before.before.before.before.before.args.t ≡ terms_of o → ageings_ok r o ≡ true
-ageings-passed c r o d t = sym (c.before.ageings_ok.ensures r o d t) ∙ not-false _ c.if-not-ageings_ok.false
+ageings-passed c r o d t = sym (c.before.ageings_ok.ensures r o d t) ∙ c.if-not-ageings_ok.false
 
 -- behind the rows 5 to 8
 four-passed :
@@ -56,7 +56,7 @@ lives-ok-requires c κs = search rules
 
 returns : tie.Need-returns-then-not-lives_ok
 unfolding fields_number
-returns c = λ r o d t. (omega arith) ∙ sym (unless_stop 5 _ (sym (lives c.before o t) ∙ not-true _ c.if-not-lives_ok.true))
+returns c = λ r o d t. (omega arith) ∙ sym (unless_stop 5 _ (sym (lives c.before o t) ∙ c.if-not-lives_ok.true))
 
 amounts-ok-requires : tie.Need-amounts_ok-requires
 amounts-ok-requires c κs = search rules
@@ -65,7 +65,7 @@ returns-2 : tie.Need-returns-then-not-amounts_ok
 unfolding fields_number
 returns-2 c =
     λ r o d t.
-    (omega arith) ∙ sym (unless_pass 5 _ (lives-passed c.before.before o t) ∙ unless_stop 6 _ (sym (amounts c.before o t) ∙ not-true _ c.if-not-amounts_ok.true))
+    (omega arith) ∙ sym (unless_pass 5 _ (lives-passed c.before.before o t) ∙ unless_stop 6 _ (sym (amounts c.before o t) ∙ c.if-not-amounts_ok.true))
 
 inflations-ok-requires : tie.Need-inflations_ok-requires
 inflations-ok-requires c κs = search rules
@@ -74,7 +74,7 @@ returns-3 : tie.Need-returns-then-not-inflations_ok
 unfolding fields_number
 returns-3 c =
     λ r o d t.
-    let out = sym (c.before.inflations_ok.ensures r o d t) ∙ not-true _ c.if-not-inflations_ok.true in
+    let out = sym (c.before.inflations_ok.ensures r o d t) ∙ c.if-not-inflations_ok.true in
     sym (unless_pass 5 _ (lives-passed c.before.before.before.before o t) ∙ unless_pass 6 _ (amounts-passed c.before.before o t) ∙ unless_stop 7 _ out)
 
 ageings-ok-requires : tie.Need-ageings_ok-requires
@@ -84,7 +84,7 @@ returns-4 : tie.Need-returns-then-not-ageings_ok
 unfolding fields_number
 returns-4 c =
     λ r o d t.
-    let out = sym (c.before.ageings_ok.ensures r o d t) ∙ not-true _ c.if-not-ageings_ok.true in
+    let out = sym (c.before.ageings_ok.ensures r o d t) ∙ c.if-not-ageings_ok.true in
     sym
     (unless_pass 5 _ (lives-passed c.before.before.before.before.before.before o t) ∙ unless_pass 6 _ (amounts-passed c.before.before.before.before o t)
     ∙ unless_pass 7 _ (inflations-passed c.before.before r o d t) ∙ unless_stop 8 _ out)
