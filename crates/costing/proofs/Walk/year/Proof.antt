@@ -14,9 +14,9 @@ returns : tie.Need-returns
 returns c =
     let s = c.before.before.before.before.before.before.before.before.before.before.before in
     walk-suc s.args.kept s.args.self s.requires.1.0 _ _ _ s.requires.1.1 s.requires.0.0.divides.number
-    c.before.before.before.before.before.before.in-service.ensures c.before.before.before.before.before.in-service2.ensures
+    c.before.before.before.before.before.before.in_service-maintenance.ensures c.before.before.before.before.before.in_service-electricity.ensures
 
-in-service-requires : tie.Need-in-service-requires
+in-service-requires : tie.Need-in_service-maintenance-requires
 in-service-requires c κs =
     let s = c.before.before.before.before in
     let h = s.requires.0.0.fits in
@@ -26,7 +26,7 @@ in-service-requires c κs =
       d.ready,
     )
 
-in-service-requires-2 : tie.Need-in-service-requires-2
+in-service-requires-2 : tie.Need-in_service-electricity-requires
 in-service-requires-2 c κs =
     let s = c.before.before.before.before.before in
     let h = s.requires.0.0.fits in
@@ -38,24 +38,24 @@ in-service-requires-2 c κs =
 
 -- the whole sum
 room :
-    (c : tie.After-in-service2) →
+    (c : tie.After-in_service-electricity) →
     let s = c.before.before.before.before.before.before in
-    s.args.self.cost.0 + s.args.due.0 + c.before.in-service.result.0 + c.in-service2.result.0 < 2 ^ 64
+    s.args.self.cost.0 + s.args.due.0 + c.before.in_service-maintenance.result.0 + c.in_service-electricity.result.0 < 2 ^ 64
 room c =
     let s = c.before.before.before.before.before.before in
-    walk-room s.args.kept s.args.self s.requires.1.0 _ _ _ s.requires.1.1 s.requires.0.0.divides.number c.before.in-service.ensures
-    c.in-service2.ensures s.requires.0.0.fits (omega arith)
+    walk-room s.args.kept s.args.self s.requires.1.0 _ _ _ s.requires.1.1 s.requires.0.0.divides.number c.before.in_service-maintenance.ensures
+    c.in_service-electricity.ensures s.requires.0.0.fits (omega arith)
 
-add-sum : tie.Need-overflow-add-sum
+add-sum : tie.Need-overflow_add-sum
 add-sum c = omega (arith, room c.before.before)
 
-add-sum-2 : tie.Need-overflow-add-sum-2
+add-sum-2 : tie.Need-overflow_add-sum-2
 add-sum-2 c = omega (arith, room c.before.before.before)
 
-add-sum-3 : tie.Need-overflow-add-sum-3
+add-sum-3 : tie.Need-overflow_add-sum-3
 add-sum-3 c = omega (arith, room c.before.before.before.before)
 
-add-years : tie.Need-overflow-add-years
+add-years : tie.Need-overflow_add-years
 add-years c = search rules
 
 pub year_spec : {M : Type 1} → statement M

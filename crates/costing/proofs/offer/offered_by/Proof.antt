@@ -12,26 +12,26 @@ use Rattle.costing.proofs.offer.offered_by.Statement.{statement}
 use Rattle.costing.proofs.offer.offered_by.Tie as tie
 
 -- the place is right where the code goes on
-well : (c : tie.Else1) → let a = c.before.before.args in placed a.horizon a.option a.start a.end ≡ true
-well c = sym c.before.placed.ensures ∙ not-false _ c.if1.false
+well : (c : tie.Else-not-placed) → let a = c.before.before.args in placed a.horizon a.option a.start a.end ≡ true
+well c = sym c.before.placed.ensures ∙ c.if-not-placed.false
 
 placed-requires : tie.Need-placed-requires
 placed-requires c κs = search rules
 
-returns : tie.Need-returns
-returns c = sym (and_of_false _ (sym c.before.placed.ensures ∙ not-true _ c.if1.true))
+returns : tie.Need-returns-then-not-placed
+returns c = sym (and_of_false _ (sym c.before.placed.ensures ∙ c.if-not-placed.true))
 
-sub-length-offered : tie.Need-overflow-sub-length-offered
+sub-length-offered : tie.Need-overflow_sub-end
 sub-length-offered c =
     let a = c.before.before.args in ((placed-iff a.horizon a.option a.start a.end).0 (well c)).0.1
 
-length-offered-requires : tie.Need-length-offered-requires
+length-offered-requires : tie.Need-length_offered-requires
 length-offered-requires c κs = search rules
 
-returns-2 : tie.Need-returns-2
+returns-2 : tie.Need-returns
 returns-2 c =
     let a = c.before.before.before.args in
-    c.length-offered.ensures
+    c.length_offered.ensures
     ∙ ap (λ (longest : ℕ). length_offered a.shortest longest a.option (a.end - a.start)) (omega arith)
     ∙ sym (and_of_true _ (well c.before))
 
