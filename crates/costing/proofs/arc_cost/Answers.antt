@@ -26,7 +26,7 @@ cost-requires c =
     let d = c.of.ensures in (
       record {
         fits = subst KeptFits (sym c.kept_of-kept.ensures) (kept_of_fits _ c.requires.0 _ _ c.requires.1 (omega arith));
-        divides = record { ready = d.1; number = d.0 ∙ sym (ap (λ (a : Kept). a.discount) c.kept_of-kept.ensures) };
+        divides = record { ready = d.ready; number = d.number ∙ sym (ap (λ (a : Kept). a.discount) c.kept_of-kept.ensures) };
       },
       omega (arith, c.requires.0.horizon_high),
     )
