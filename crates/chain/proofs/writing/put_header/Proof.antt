@@ -18,32 +18,32 @@ returns c =
     let i = j.before.before.before.before in
     let total = i.before.before.before.before in
     let version = total.before.before.before.before in
-    rw (count.put5.ensures, j.put4.ensures, i.put3.ensures, total.put2.ensures, version.put.ensures)
+    rw (count.put-5.ensures, j.put-4.ensures, i.put-3.ensures, total.put-2.ensures, version.put.ensures)
 
-slice-write-plan : tie.Need-slice-write-plan
+slice-write-plan : tie.Need-bounds-plan-0
 slice-write-plan c = search rules
 
-slice-write-plan-2 : tie.Need-slice-write-plan-2
+slice-write-plan-2 : tie.Need-bounds-plan-1
 slice-write-plan-2 c = simp length-set (omega arith)
 
-slice-write-plan-3 : tie.Need-slice-write-plan-3
+slice-write-plan-3 : tie.Need-bounds-plan-2
 slice-write-plan-3 c = simp length-set (omega arith)
 
 put-requires : tie.Need-put-requires
 put-requires c κs = simp length-set (omega arith)
 
 -- the buffer keeps its room from field to field
-room : (c : tie.After-put) → 19 ≤ length c.put.new.0
-room c = rw c.put.auto.0 (simp length-set (omega arith))
+room : (c : tie.After-put) → 19 ≤ length c.put.new.list
+room c = rw c.put.auto.list (simp length-set (omega arith))
 
-room2 : (c : tie.After-put2) → 19 ≤ length c.put2.new.0
-room2 c = rw c.put2.auto.0 (room c.before.before.before.before)
+room2 : (c : tie.After-put-2) → 19 ≤ length c.put-2.new.list
+room2 c = rw c.put-2.auto.list (room c.before.before.before.before)
 
-room3 : (c : tie.After-put3) → 19 ≤ length c.put3.new.0
-room3 c = rw c.put3.auto.0 (room2 c.before.before.before.before)
+room3 : (c : tie.After-put-3) → 19 ≤ length c.put-3.new.list
+room3 c = rw c.put-3.auto.list (room2 c.before.before.before.before)
 
-room4 : (c : tie.After-put4) → 19 ≤ length c.put4.new.0
-room4 c = rw c.put4.auto.0 (room3 c.before.before.before.before)
+room4 : (c : tie.After-put-4) → 19 ≤ length c.put-4.new.list
+room4 c = rw c.put-4.auto.list (room3 c.before.before.before.before)
 
 put-requires-2 : tie.Need-put-requires-2
 put-requires-2 c κs = omega (arith, room c.before.before.before)
@@ -57,20 +57,10 @@ put-requires-4 c κs = omega (arith, room3 c.before.before.before)
 put-requires-5 : tie.Need-put-requires-5
 put-requires-5 c κs = omega (arith, room4 c.before.before.before)
 
-same_length : tie.Need-same-length
+same_length : tie.Need-shape_of-plan
 same_length c = ap length (returns c) ∙ simp length-sets
 
 pub put_header_spec : {M : Type 1} → statement M
 put_header_spec =
     tie.close
-    (tie.spec
-    slice-write-plan
-    slice-write-plan-2
-    slice-write-plan-3
-    put-requires
-    put-requires-2
-    put-requires-3
-    put-requires-4
-    put-requires-5
-    same_length
-    returns)
+    (tie.spec slice-write-plan slice-write-plan-2 slice-write-plan-3 put-requires put-requires-2 put-requires-3 put-requires-4 put-requires-5 same_length returns)

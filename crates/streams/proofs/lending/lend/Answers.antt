@@ -1,0 +1,30 @@
+-- The streams of an option are filled by its terms, and its ages handed back. Assumes nothing.
+use Prim.Native.Nat.{ℕ}
+use mathlib.Core.Path.{refl, subst}
+use native.Mathlib.Omega.{arith}
+use lib.ListN.{get_or}
+use Rattle.sheet.specs.Parsed.{no_terms}
+use Rattle.costing.specs.Arc.{electricity}
+use Rattle.streams.specs.Streams.{Streams}
+use Rattle.streams.proofs.FillLaws.{power_same}
+use Rattle.streams.proofs.lending.lend.Goals as goal
+
+pub returns : goal.returns
+unfolding electricity
+returns c =
+    let filled = c.fill in
+    let terms = get_or c.args.sheet.options c.args.option no_terms in
+    let number = c.requires.fit.1.number in (
+      subst (λ (d : ℕ). Streams d terms c.args.sheet.horizon filled.new.streams) number filled.ensures.paid,
+      refl,
+      power_same terms.electricity c.args.sheet.horizon filled.new.streams number (omega arith) filled.ensures.power,
+    )
+
+pub fill-requires : goal.fill-requires
+fill-requires c =
+    let fit = c.requires.fit.0 in
+    let d = c.requires.fit.1 in record {
+      divisor_ready = (d.ready, omega (arith, d.number, fit.discount_low), omega (arith, d.number, fit.discount_high));
+      terms_fit = rw d.number (fit.options c.args.option no_terms (omega (arith, c.requires.option_bound.0)));
+      last_bound = (fit.horizon_high, c.requires.option_bound.1);
+    }
