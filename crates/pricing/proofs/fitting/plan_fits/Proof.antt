@@ -58,7 +58,7 @@ returns-4 c =
     let f = m.before in
     let j = f.before.before in
     let i = j.before.before.before in
-    let renovated = sym (f.before.offered-2.ensures p read) ∙ not-false _ f.if-not-offered-2.false in
+    let renovated = sym (f.before.offered-2.ensures p read) ∙ f.if-not-offered-2.false in
     c.reaches.ensures p read
     ∙ sym (fitting-replaced p _ (well i.before) i.u16_at-i.ensures.0 (maintained j.before p read) j.u16_at-j.ensures.0
     renovated m.u16_at-count.ensures.0)
