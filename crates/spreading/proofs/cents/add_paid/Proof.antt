@@ -14,17 +14,17 @@ use Rattle.spreading.proofs.SizeLaws.{cents_small, room-opened, room_overhauled,
 use Rattle.spreading.proofs.cents.add_paid.Statement.{statement}
 use Rattle.spreading.proofs.cents.add_paid.Tie as tie
 
-returns : tie.Need-returns
-returns c = let a = c.before.before.args in paid_none (in_money a.money) a.words.now a.kept c.if1.true
+returns : tie.Need-returns-then-years-eq0
+returns c = let a = c.before.before.args in paid_none (in_money a.money) a.words.now a.kept c.if-years-eq0.true
 
 -- where the code starts
-abbrev start : tie.After-investment → tie.Start
+abbrev start : tie.After-investment-1 → tie.Start
 start c = c.before.before.before.before
 
-add-once-requires : tie.Need-add-once-requires
+add-once-requires : tie.Need-add_once-requires
 add-once-requires c κs =
     let s = start c.before in
-    let h = s.pre in
+    let h = s.requires in
     let i = h.fits.terms.investment in
     let from = h.fits.from in
     let high = h.fits.high in (
@@ -34,22 +34,22 @@ add-once-requires c κs =
 
 -- the words behind the investment
 opened :
-    (c : tie.After-add-once) →
+    (c : tie.After-add_once) →
     let a = (start c.before.before).args in
-    Raised (in_money a.money) a.words.now c.add_once.new.0 (investment a.kept ∷ [])
+    Raised (in_money a.money) a.words.now c.add_once.new.words (investment a.kept ∷ [])
 unfolding investment
 opened c = c.add_once.ensures
 
-add-overhauls-requires : tie.Need-add-overhauls-requires
+add-overhauls-requires : tie.Need-add_overhauls-requires
 add-overhauls-requires c κs =
     let w = c.before.before.before in
     let s = start w.before.before in
-    let h = s.pre in
+    let h = s.requires in
     let k = s.args.kept in (
       record {
         money = h.money;
         room = room-opened (in_money s.args.money) k h.fits s.args.years h.few (cents_small s.args.money h.money k h.fits s.args.years) _
-            s.args.words.now h.long h.room w.add_once.new.0 w.add_once.auto.0 (opened w);
+            s.args.words.now h.long h.room w.add_once.new.words w.add_once.auto.words (opened w);
       },
       h.fits,
       h.few,
@@ -59,64 +59,57 @@ add-overhauls-requires c κs =
 passes : (s : tie.Start) (w : Flow) → FlowFits s.args.kept.discount w → FlowPasses w
 passes s w fits = record { discount = s.args.kept.discount; low = s.requires.fits.low; high = s.requires.fits.high; fits = fits }
 
-add-flow-requires : tie.Need-add-flow-requires
+add-flow-requires : tie.Need-add_flow-requires
 add-flow-requires c κs =
-    let o = c.before.before.before in
+    let o = c.before.before.before.before in
     let w = o.before.before.before.before in
     let s = start w.before.before in
-    let h = s.pre in
+    let h = s.requires in
     let k = s.args.kept in (
       record {
         money = h.money;
         room = room_overhauled (in_money s.args.money) k h.fits s.args.years h.few (cents_small s.args.money h.money k h.fits s.args.years) _
-            s.args.words.now h.long h.room w.add_once.new.0 o.add-overhauls.new.0 (opened w) o.add-overhauls.ensures
-            (o.add-overhauls.auto.0 ∙ w.add_once.auto.0);
+            s.args.words.now h.long h.room w.add_once.new.words o.add_overhauls.new.words (opened w) o.add_overhauls.ensures
+            (o.add_overhauls.auto.words ∙ w.add_once.auto.words);
       },
       passes s k.terms.maintenance h.fits.terms.maintenance,
       omega arith,
     )
 
-add-flow-requires-2 : tie.Need-add-flow-requires-2
+add-flow-requires-2 : tie.Need-add_flow-requires-2
 add-flow-requires-2 c κs =
-    let m = c.before.before.before in
-    let o = m.before.before.before.before in
+    let m = c.before.before.before.before in
+    let o = m.before.before.before.before.before in
     let w = o.before.before.before.before in
     let s = start w.before.before in
-    let h = s.pre in
+    let h = s.requires in
     let k = s.args.kept in (
       record {
         money = h.money;
         room = room_maintained (in_money s.args.money) k h.fits s.args.years h.few (cents_small s.args.money h.money k h.fits s.args.years) _
-            s.args.words.now h.long h.room w.add_once.new.0 o.add-overhauls.new.0 (opened w) o.add-overhauls.ensures
-            m.add-flow.new.0 (m.add-flow.auto.0 ∙ o.add-overhauls.auto.0 ∙ w.add_once.auto.0) m.add-flow.ensures;
+            s.args.words.now h.long h.room w.add_once.new.words o.add_overhauls.new.words (opened w) o.add_overhauls.ensures
+            m.add_flow.new.words (m.add_flow.auto.words ∙ o.add_overhauls.auto.words ∙ w.add_once.auto.words) m.add_flow.ensures;
       },
       passes s k.terms.electricity h.fits.terms.electricity,
       omega (arith, h.fits.since),
     )
 
-same_length : tie.Need-same-length
+same_length : tie.Need-shape_of-words
 same_length c = search rules
 
-returns-2 : tie.Need-returns-2
+returns-2 : tie.Need-returns
 returns-2 c =
     let e = c.before.before in
-    let m = e.before.before.before.before in
-    let o = m.before.before.before.before in
+    let m = e.before.before.before.before.before in
+    let o = m.before.before.before.before.before in
     let w = o.before.before.before.before in
     let i = w.before.before in
     let s = start i in
-    let some = i.before.before.if1.false in
-    paid_raised (in_money s.args.money) s.args.words.now s.args.kept s.args.years w.add_once.new.0 o.add-overhauls.new.0
-    m.add-flow.new.0 e.add-flow2.new.0 (omega arith) (omega arith) (omega arith) (opened w) o.add-overhauls.ensures m.add-flow.ensures e.add-flow2.ensures
+    let some = i.before.before.if-years-eq0.false in
+    paid_raised (in_money s.args.money) s.args.words.now s.args.kept s.args.years w.add_once.new.words o.add_overhauls.new.words
+    m.add_flow.new.words e.add_flow-2.new.words (omega arith) (omega arith) (omega arith) (opened w) o.add_overhauls.ensures m.add_flow.ensures e.add_flow-2.ensures
 
 pub add_paid_spec : {M : Type 1} → statement M
 add_paid_spec =
     tie.close
-    (tie.spec
-    returns
-    add-once-requires
-    add-overhauls-requires
-    add-flow-requires
-    add-flow-requires-2
-    same_length
-    returns-2)
+    (tie.spec returns add-once-requires add-overhauls-requires add-flow-requires add-flow-requires-2 same_length returns-2)

@@ -18,14 +18,14 @@ use Rattle.spreading.proofs.SizeLaws.{room-opened, room_overhauled, room_maintai
 use Rattle.spreading.proofs.units.add_paid.Statement.{statement}
 use Rattle.spreading.proofs.units.add_paid.Tie as tie
 
-returns : tie.Need-returns
-returns c = let a = c.before.before.args in paid_none (rounded a.kept.discount) a.words.now a.kept c.if1.true
+returns : tie.Need-returns-then-years-eq0
+returns c = let a = c.before.before.args in paid_none (rounded a.kept.discount) a.words.now a.kept c.if-years-eq0.true
 
 -- where the code starts
-abbrev start : tie.After-investment → tie.Start
+abbrev start : tie.After-investment-1 → tie.Start
 start c = c.before.before.before.before
 
-paid-once-requires : tie.Need-paid-once-requires
+paid-once-requires : tie.Need-paid_once-value-requires
 paid-once-requires c κs =
     let h = (start c).requires.steps in
     let i = h.fits.terms.investment in
@@ -33,20 +33,20 @@ paid-once-requires c κs =
 
 -- the value of the investment
 invested :
-    (c : tie.After-paid-once) →
+    (c : tie.After-paid_once-value) →
     let k = (start c.before).args.kept in
-    c.paid-once.result.0 ≡ rounded k.discount (investment k)
+    c.paid_once-value.result.0 ≡ rounded k.discount (investment k)
 unfolding investment
 invested c =
     let s = start c.before in
     let i = s.args.kept.terms.investment in
-    subst (λ (d : ℕ). c.paid-once.result.0 ≡ rounded d (once i.amount i.grow s.args.kept.from)) s.pre.steps.divides.number c.paid-once.ensures
+    subst (λ (d : ℕ). c.paid_once-value.result.0 ≡ rounded d (once i.amount i.grow s.args.kept.from)) s.requires.steps.divides.number c.paid_once-value.ensures
 
 add-requires : tie.Need-add-requires
 add-requires c κs =
     let v = c.before in
     let s = start v.before in
-    let h = s.pre in
+    let h = s.requires in
     let long = h.long in
     let from = h.steps.fits.from in
     let small = units_small s.args.kept h.steps.fits s.args.years h.few in (
@@ -58,23 +58,23 @@ add-requires c κs =
 opened :
     (c : tie.After-add) →
     let a = (start c.before.before.before).args in
-    Raised (rounded a.kept.discount) a.words.now c.add.new.0 (investment a.kept ∷ [])
+    Raised (rounded a.kept.discount) a.words.now c.add.new.words (investment a.kept ∷ [])
 opened c =
     let v = c.before.before in
     let a = (start v.before).args in
     let k = a.kept in
-    raised_one (rounded k.discount) a.words.now c.add.new.0 (investment k) (omega (arith, investment-year k)) (invested v) c.add.ensures
+    raised_one (rounded k.discount) a.words.now c.add.new.words (investment k) (omega (arith, investment-year k)) (invested v) c.add.ensures
 
-add-overhauls-requires : tie.Need-add-overhauls-requires
+add-overhauls-requires : tie.Need-add_overhauls-requires
 add-overhauls-requires c κs =
     let w = c.before.before.before in
     let s = start w.before.before.before in
-    let h = s.pre in
+    let h = s.requires in
     let k = s.args.kept in (
       h.steps,
       h.few,
       room-opened (rounded k.discount) k h.steps.fits s.args.years h.few (units_small k h.steps.fits s.args.years h.few) _
-          s.args.words.now h.long h.room w.add.new.0 w.add.auto.0 (opened w),
+          s.args.words.now h.long h.room w.add.new.words w.add.auto.words (opened w),
     )
 
 -- what a flow of the option asks
@@ -100,69 +100,61 @@ flow-asks s w since fits old words room =
 
 -- the words behind maintenance, in the option's own discount factor
 maintained :
-    (c : tie.After-add-flow) →
-    let o = c.before.before.before.before in
+    (c : tie.After-add_flow) →
+    let o = c.before.before.before.before.before in
     let a = (start o.before.before.before.before.before.before.before).args in
-    Raised (rounded a.kept.discount) o.add-overhauls.new.0 c.add-flow.new.0 (flow_paid a.kept.terms.maintenance a.kept.from a.kept.from a.years)
+    Raised (rounded a.kept.discount) o.add_overhauls.new.words c.add_flow.new.words (flow_paid a.kept.terms.maintenance a.kept.from a.kept.from a.years)
 maintained c =
-    let o = c.before.before.before.before in
+    let o = c.before.before.before.before.before in
     let s = start o.before.before.before.before.before.before.before in
     let k = s.args.kept in
-    subst (λ (d : ℕ). Raised (rounded d) o.add-overhauls.new.0 c.add-flow.new.0 (flow_paid k.terms.maintenance k.from k.from s.args.years))
-    s.pre.steps.divides.number c.add-flow.ensures
+    subst (λ (d : ℕ). Raised (rounded d) o.add_overhauls.new.words c.add_flow.new.words (flow_paid k.terms.maintenance k.from k.from s.args.years))
+    s.requires.steps.divides.number c.add_flow.ensures
 
-add-flow-requires : tie.Need-add-flow-requires
+add-flow-requires : tie.Need-add_flow-requires
 add-flow-requires c κs =
-    let o = c.before.before.before in
+    let o = c.before.before.before.before in
     let w = o.before.before.before.before in
     let s = start w.before.before.before in
-    let h = s.pre in
+    let h = s.requires in
     let k = s.args.kept in
-    flow-asks s k.terms.maintenance k.from h.steps.fits.terms.maintenance (omega arith) o.add-overhauls.new.0
+    flow-asks s k.terms.maintenance k.from h.steps.fits.terms.maintenance (omega arith) o.add_overhauls.new.words
     (room_overhauled (rounded k.discount) k h.steps.fits s.args.years h.few (units_small k h.steps.fits s.args.years h.few) _
-    s.args.words.now h.long h.room w.add.new.0 o.add-overhauls.new.0 (opened w) o.add-overhauls.ensures
-    (o.add-overhauls.auto.0 ∙ w.add.auto.0))
+    s.args.words.now h.long h.room w.add.new.words o.add_overhauls.new.words (opened w) o.add_overhauls.ensures
+    (o.add_overhauls.auto.words ∙ w.add.auto.words))
 
-add-flow-requires-2 : tie.Need-add-flow-requires-2
+add-flow-requires-2 : tie.Need-add_flow-requires-2
 add-flow-requires-2 c κs =
-    let m = c.before.before.before in
-    let o = m.before.before.before.before in
+    let m = c.before.before.before.before in
+    let o = m.before.before.before.before.before in
     let w = o.before.before.before.before in
     let s = start w.before.before.before in
-    let h = s.pre in
+    let h = s.requires in
     let k = s.args.kept in
-    flow-asks s k.terms.electricity k.since h.steps.fits.terms.electricity h.steps.fits.since m.add-flow.new.0
+    flow-asks s k.terms.electricity k.since h.steps.fits.terms.electricity h.steps.fits.since m.add_flow.new.words
     (room_maintained (rounded k.discount) k h.steps.fits s.args.years h.few (units_small k h.steps.fits s.args.years h.few) _
-    s.args.words.now h.long h.room w.add.new.0 o.add-overhauls.new.0 (opened w) o.add-overhauls.ensures
-    m.add-flow.new.0 (m.add-flow.auto.0 ∙ o.add-overhauls.auto.0 ∙ w.add.auto.0) (maintained m))
+    s.args.words.now h.long h.room w.add.new.words o.add_overhauls.new.words (opened w) o.add_overhauls.ensures
+    m.add_flow.new.words (m.add_flow.auto.words ∙ o.add_overhauls.auto.words ∙ w.add.auto.words) (maintained m))
 
-same_length : tie.Need-same-length
+same_length : tie.Need-shape_of-words
 same_length c = search rules
 
-returns-2 : tie.Need-returns-2
+returns-2 : tie.Need-returns
 returns-2 c =
     let e = c.before.before in
-    let m = e.before.before.before.before in
-    let o = m.before.before.before.before in
+    let m = e.before.before.before.before.before in
+    let o = m.before.before.before.before.before in
     let w = o.before.before.before.before in
     let i = w.before.before.before in
     let s = start i in
     let k = s.args.kept in
-    let some = i.before.before.if1.false in
-    paid_raised (rounded k.discount) s.args.words.now k s.args.years w.add.new.0 o.add-overhauls.new.0 m.add-flow.new.0 e.add-flow2.new.0
-    (omega arith) refl refl (opened w) o.add-overhauls.ensures (maintained m)
-    (subst (λ (d : ℕ). Raised (rounded d) m.add-flow.new.0 e.add-flow2.new.0 (flow_paid k.terms.electricity k.since k.from s.args.years))
-    s.pre.steps.divides.number e.add-flow2.ensures)
+    let some = i.before.before.if-years-eq0.false in
+    paid_raised (rounded k.discount) s.args.words.now k s.args.years w.add.new.words o.add_overhauls.new.words m.add_flow.new.words e.add_flow-2.new.words
+    (omega arith) refl refl (opened w) o.add_overhauls.ensures (maintained m)
+    (subst (λ (d : ℕ). Raised (rounded d) m.add_flow.new.words e.add_flow-2.new.words (flow_paid k.terms.electricity k.since k.from s.args.years))
+    s.requires.steps.divides.number e.add_flow-2.ensures)
 
 pub add_paid_spec : {M : Type 1} → statement M
 add_paid_spec =
     tie.close
-    (tie.spec
-    returns
-    paid-once-requires
-    add-requires
-    add-overhauls-requires
-    add-flow-requires
-    add-flow-requires-2
-    same_length
-    returns-2)
+    (tie.spec returns paid-once-requires add-requires add-overhauls-requires add-flow-requires add-flow-requires-2 same_length returns-2)
