@@ -13,55 +13,52 @@ use Rattle.lines.proofs.text.put_pair.Tie as tie
 lengths : (s : tie.Start) → (length (spaced s.args.first) ≤ 6) × (length (spaced s.args.second) ≤ 6)
 lengths s = (year-length s.args.first s.requires.0, year-length s.args.second s.requires.1)
 
-put-word-requires : tie.Need-put-word-requires
+put-word-requires : tie.Need-put_word-behind-requires
 put-word-requires c κs = omega (arith, c.before.before.before.requires.2)
 
-put-number-requires : tie.Need-put-number-requires
+put-number-requires : tie.Need-put_number-between-requires
 put-number-requires c κs =
     let w = c.before.before.before in
     let s = w.before.before.before.before in
-    let word = w.put_word.ensures in
+    let word = w.put_word-behind.ensures in
     omega (arith, s.requires.2, (lengths s).0, word.behind, puts_length word)
 
-put-number-requires-2 : tie.Need-put-number-requires-2
+put-number-requires-2 : tie.Need-put_number-end-requires
 put-number-requires-2 c κs =
     let n = c.before.before.before in
     let w = n.before.before.before.before in
     let s = w.before.before.before.before in
-    let word = w.put_word.ensures in
-    let first = n.put-number.ensures in
+    let word = w.put_word-behind.ensures in
+    let first = n.put_number-between.ensures in
     omega (arith, s.requires.2, (lengths s).0, (lengths s).1, word.behind, first.behind, puts_length (puts_more word first))
 
-slice-aggregate-put-word : tie.Need-slice-aggregate-put-word
-slice-aggregate-put-word c = search rules
-
-put-word-requires-2 : tie.Need-put-word-requires-2
+put-word-requires-2 : tie.Need-put_word-requires
 put-word-requires-2 c κs =
-    let m = c.before.before.before.before in
+    let m = c.before.before.before.before.before in
     let n = m.before.before.before.before in
     let w = n.before.before.before.before in
     let s = w.before.before.before.before in
-    let word = w.put_word.ensures in
-    let first = n.put-number.ensures in
-    let second = m.put-number2.ensures in
+    let word = w.put_word-behind.ensures in
+    let first = n.put_number-between.ensures in
+    let second = m.put_number-end.ensures in
     let long = puts_length (puts_more (puts_more word first) second) in
     omega (arith, s.requires.2, (lengths s).0, (lengths s).1, word.behind, first.behind, second.behind)
 
-same_length : tie.Need-same-length
+same_length : tie.Need-shape_of-text
 same_length c = search rules
 
 returns : tie.Need-returns
 unfolding pair_line
 returns c =
     let e = c.before.before in
-    let m = e.before.before.before.before.before in
+    let m = e.before.before.before.before.before.before in
     let n = m.before.before.before.before in
     let w = n.before.before.before.before in
     let s = w.before.before.before.before in
-    let word = w.put_word.ensures in
-    let first = n.put-number.ensures in
-    let second = m.put-number2.ensures in
-    let end = e.put-word2.ensures in (
+    let word = w.put_word-behind.ensures in
+    let first = n.put_number-between.ensures in
+    let second = m.put_number-end.ensures in
+    let end = e.put_word.ensures in (
       puts_more (puts_more (puts_more word first) second) end,
       omega (arith, (lengths s).0, (lengths s).1, word.behind, first.behind, second.behind, end.behind),
     )
@@ -69,11 +66,4 @@ returns c =
 pub put_pair_spec : {M : Type 1} → statement M
 put_pair_spec =
     tie.close
-    (tie.spec
-    put-word-requires
-    put-number-requires
-    put-number-requires-2
-    slice-aggregate-put-word
-    put-word-requires-2
-    same_length
-    returns)
+    (tie.spec put-word-requires put-number-requires put-number-requires-2 put-word-requires-2 same_length returns)
