@@ -25,51 +25,51 @@ use Rattle.budget.proofs.budget.Statement.{statement}
 use Rattle.budget.proofs.budget.Tie as tie
 
 -- where the code starts
-abbrev start : tie.After-price → tie.Start
+abbrev start : tie.After-price-priced → tie.Start
 start c = c.before.before.before.before.before
 
-price-requires : tie.Need-price-requires
+price-requires : tie.Need-price-priced-requires
 price-requires c κs = search rules
 
-returns : tie.Need-returns
+returns : tie.Need-returns-then-priced-ne0
 returns c =
     let r = c.before.before in
     let a = (start r).args in
-    refused_ended a.sheet.now a.plan.now a.general a.units.now a.cents.now r.price.result r.price.ensures.0
-    r.price.ensures.1.0 c.if1.true
+    refused_ended a.sheet.now a.plan.now a.general a.units.now a.cents.now r.price-priced.result r.price-priced.ensures.0
+    r.price-priced.ensures.1.0 c.if-priced-ne0.true
 
 refused-requires : tie.Need-refused-requires
 refused-requires c κs = search rules
 
-returns-2 : tie.Need-returns-2
+returns-2 : tie.Need-returns-then-general-gt50000
 returns-2 c =
     let e = c.before.before in
     let r = e.before.before in
     let a = (start r).args in
-    high_ended a.sheet.now a.plan.now a.general a.units.now a.cents.now r.price.result r.price.ensures.0
-    r.price.ensures.1.0 e.if1.false c.refused.result (c.refused.ensures ∙ ap (λ (n : ℕ). refused n 3) (omega arith)) (omega (arith, c.before.if2.true))
+    high_ended a.sheet.now a.plan.now a.general a.units.now a.cents.now r.price-priced.result r.price-priced.ensures.0
+    r.price-priced.ensures.1.0 e.if-priced-ne0.false c.refused.result (c.refused.ensures ∙ ap (λ (n : ℕ). refused n 3) (omega arith)) (omega (arith, c.before.if-general-gt50000.true))
 
 -- behind pricing the sheet passes, and the plan holds a feasible chain
 holds :
-    (c : tie.Else1) →
+    (c : tie.Else-priced-ne0) →
     let a = (start c.before.before).args in
     Passes a.sheet.now × (Shaped a.plan.now × Feasible (sheet_of a.sheet.now) (decode a.plan.now))
 holds c =
     let r = c.before.before in
-    (accepted-iff _ _).0 (ap (λ (x : Answer). x.number) (sym r.price.ensures.0) ∙ c.if1.false)
+    (accepted-iff _ _).0 (ap (λ (x : Answer). x.number) (sym r.price-priced.ensures.0) ∙ c.if-priced-ne0.false)
 
-parse-requires : tie.Need-parse-requires
+parse-requires : tie.Need-parse-parsed-requires
 parse-requires c κs = header_sized _ (holds c.before).0.header
 
 roomy-requires : tie.Need-roomy-requires
 roomy-requires c κs = search rules
 
 -- T, and the test of the lists, by the sheet
-abbrev priced : tie.After-parse → tie.After-price
+abbrev priced : tie.After-parse-parsed → tie.After-price-priced
 priced c = c.before.before.before.before
 
-far : (c : tie.After-parse) → c.parse.result.horizon ≡ (sheet_of (start (priced c)).args.sheet.now).horizon
-far c = horizon_read _ _ c.parse.ensures
+far : (c : tie.After-parse-parsed) → c.parse-parsed.result.horizon ≡ (sheet_of (start (priced c)).args.sheet.now).horizon
+far c = horizon_read _ _ c.parse-parsed.ensures
 
 tested :
     (c : tie.After-roomy) →
@@ -79,25 +79,25 @@ tested c =
     let a = (start (priced c.before)).args in
     ap (λ (T : ℕ). roomy T (length a.units.now) (length a.cents.now)) (sym (far c.before)) ∙ sym c.roomy.ensures
 
-refused-requires-2 : tie.Need-refused-requires-2
+refused-requires-2 : tie.Need-refused-requires-then-not-roomy
 refused-requires-2 c κs = search rules
 
-returns-3 : tie.Need-returns-3
+returns-3 : tie.Need-returns-then-not-roomy
 returns-3 c =
     let t = c.before.before in
     let f = t.before.before in
     let e = f.before in
     let r = e.before.before in
     let a = (start r).args in
-    short_ended a.sheet.now a.plan.now a.general a.units.now a.cents.now r.price.result r.price.ensures.0
-    r.price.ensures.1.0 e.if1.false (omega (arith, f.if2.false)) c.refused2.result (c.refused2.ensures ∙ ap (λ (n : ℕ). refused n 3) (omega arith))
-    (tested t ∙ not-true _ c.before.if3.true)
+    short_ended a.sheet.now a.plan.now a.general a.units.now a.cents.now r.price-priced.result r.price-priced.ensures.0
+    r.price-priced.ensures.1.0 e.if-priced-ne0.false (omega (arith, f.if-general-gt50000.false)) c.refused-then-not-roomy.result (c.refused-then-not-roomy.ensures ∙ ap (λ (n : ℕ). refused n 3) (omega arith))
+    (tested t ∙ c.before.if-not-roomy.true)
 
 room :
-    (c : tie.Else3) →
+    (c : tie.Else-not-roomy) →
     let a = (start (priced c.before.before)).args in
     roomy (sheet_of a.sheet.now).horizon (length a.units.now) (length a.cents.now) ≡ true
-room c = tested c.before ∙ not-false _ c.if3.false
+room c = tested c.before ∙ c.if-not-roomy.false
 
 fill-requires : tie.Need-fill-requires
 fill-requires c κs =
@@ -109,8 +109,8 @@ fill-requires c κs =
     let horizon = far q in
     let long = roomy_long (sheet_of a.sheet.now).horizon (length a.units.now) (length a.cents.now) (room d) in (
       record {
-        fit = subst Fit (sym q.parse.ensures) (fit _ h.0);
-        inflation = omega (arith, f.if2.false);
+        fit = subst Fit (sym q.parse-parsed.ensures) (fit _ h.0);
+        inflation = omega (arith, f.if-general-gt50000.false);
         units_long = subst (λ (T : ℕ). T < length a.units.now) (sym horizon) long.0;
         cents_long = subst (λ (T : ℕ). last_in_cents T < length a.cents.now) (sym horizon) long.1;
       },
@@ -120,13 +120,13 @@ fill-requires c κs =
       },
     )
 
-same_length : tie.Need-same-length
+same_length : tie.Need-shape_of-units
 same_length c = search rules
 
-same-length-2 : tie.Need-same-length-2
+same-length-2 : tie.Need-shape_of-cents
 same-length-2 c = search rules
 
-returns-4 : tie.Need-returns-4
+returns-4 : tie.Need-returns
 returns-4 c =
     let w = c.before.before.before.before in
     let d = w.before.before.before in
@@ -135,23 +135,11 @@ returns-4 c =
     let e = f.before in
     let r = e.before.before in
     let a = (start r).args in
-    written_ended a.sheet.now a.plan.now a.general a.units.now a.cents.now r.price.result r.price.ensures.0
-    r.price.ensures.1.0 e.if1.false (omega (arith, f.if2.false)) w.fill.new.0 w.fill.new.1.0 (room d)
-    (w.fill.ensures.0 _ q.parse.ensures (holds e).1.1) (w.fill.ensures.1 _ q.parse.ensures)
+    written_ended a.sheet.now a.plan.now a.general a.units.now a.cents.now r.price-priced.result r.price-priced.ensures.0
+    r.price-priced.ensures.1.0 e.if-priced-ne0.false (omega (arith, f.if-general-gt50000.false)) w.fill.new.units w.fill.new.cents (room d)
+    (w.fill.ensures.0 _ q.parse-parsed.ensures (holds e).1.1) (w.fill.ensures.1 _ q.parse-parsed.ensures)
 
 pub budget_spec : {M : Type 1} → statement M
 budget_spec =
     tie.close
-    (tie.spec
-    price-requires
-    returns
-    refused-requires
-    returns-2
-    parse-requires
-    roomy-requires
-    refused-requires-2
-    returns-3
-    fill-requires
-    same_length
-    same-length-2
-    returns-4)
+    (tie.spec price-requires returns refused-requires returns-2 parse-requires roomy-requires refused-requires-2 returns-3 fill-requires same_length same-length-2 returns-4)

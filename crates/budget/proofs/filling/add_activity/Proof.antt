@@ -13,53 +13,53 @@ use Rattle.budget.proofs.FillLaws.{arc_read, units-below, cents-below}
 use Rattle.budget.proofs.filling.add_activity.Statement.{statement}
 use Rattle.budget.proofs.filling.add_activity.Tie as tie
 
-kept-of-requires : tie.Need-kept-of-requires
+kept-of-requires : tie.Need-kept_of-kept-requires
 kept-of-requires c κs = search rules
 
-pays-removal-requires : tie.Need-pays-removal-requires
+pays-removal-requires : tie.Need-pays_removal-removed-requires
 pays-removal-requires c κs = search rules
 
-sub-years : tie.Need-overflow-sub-years
+sub-years : tie.Need-overflow_sub-years
 sub-years c = search rules
 
 -- where the code starts
-abbrev start : tie.After-kept-of → tie.Start
+abbrev start : tie.After-kept_of-kept → tie.Start
 start c = c.before.before.before
 
 -- the option that is kept fits, from the start on
-fits : (c : tie.After-kept-of) → KeptFits c.kept_of.result
+fits : (c : tie.After-kept_of-kept) → KeptFits c.kept_of-kept.result
 fits c =
     let s = start c in
-    let o = s.pre.1 in
+    let o = s.requires.1 in
     let forward = o.1 in
     let inside = o.2 in
-    subst KeptFits (sym c.kept_of.ensures) (kept_of_fits s.args.sheet s.pre.0.0.fit s.args.option s.args.start o.0 (omega arith))
+    subst KeptFits (sym c.kept_of-kept.ensures) (kept_of_fits s.args.sheet s.requires.0.0.fit s.args.option s.args.start o.0 (omega arith))
 
-from : (c : tie.After-kept-of) → c.kept_of.result.from ≡ (start c).args.start
-from c = ap (λ (k : Kept). k.from) c.kept_of.ensures
+from : (c : tie.After-kept_of-kept) → c.kept_of-kept.result.from ≡ (start c).args.start
+from c = ap (λ (k : Kept). k.from) c.kept_of-kept.ensures
 
-add-arc-requires : tie.Need-add-arc-requires
+add-arc-requires : tie.Need-add_arc-requires
 add-arc-requires c κs =
     let k = c.before.before in
     let s = start k in
-    let h = s.pre.0.0 in
-    let o = s.pre.1 in
+    let h = s.requires.0.0 in
+    let o = s.requires.1 in
     let forward = o.1 in
     let inside = o.2 in
     let long = h.units_long in
     record {
-      steps = record { fits = fits k; divides = subst (Divides s.args.discount) (ap (λ (a : Kept). a.discount) (sym k.kept_of.ensures)) s.pre.0.1 };
+      steps = record { fits = fits k; divides = subst (Divides s.args.discount) (ap (λ (a : Kept). a.discount) (sym k.kept_of-kept.ensures)) s.requires.0.1 };
       few = omega (arith, h.fit.horizon_high);
       long = omega (arith, from k);
       room = rw (from k) (λ y early. h.units_room y (omega (arith, from k)));
     }
 
-add-arc-requires-2 : tie.Need-add-arc-requires-2
+add-arc-requires-2 : tie.Need-add_arc-requires-2
 add-arc-requires-2 c κs =
     let k = c.before.before.before.before.before.before in
     let s = start k in
-    let h = s.pre.0.0 in
-    let o = s.pre.1 in
+    let h = s.requires.0.0 in
+    let o = s.requires.1 in
     let forward = o.1 in
     let inside = o.2 in
     record {
@@ -70,10 +70,10 @@ add-arc-requires-2 c κs =
       room = rw (from k) h.cents_room;
     }
 
-same_length : tie.Need-same-length
+same_length : tie.Need-shape_of-units
 same_length c = search rules
 
-same-length-2 : tie.Need-same-length-2
+same-length-2 : tie.Need-shape_of-cents
 same-length-2 c = search rules
 
 returns : tie.Need-returns
@@ -85,24 +85,24 @@ returns c =
     let k = b.before in
     let s = start k in
     let a = s.args in
-    let h = s.pre.0.0 in
-    let o = s.pre.1 in
-    let made = k.kept_of.ensures in
-    let kept = k.kept_of.result in
-    let removed = b.pays-removal.result in
-    let pays = b.pays-removal.ensures in (
+    let h = s.requires.0.0 in
+    let o = s.requires.1 in
+    let made = k.kept_of-kept.ensures in
+    let kept = k.kept_of-kept.result in
+    let removed = b.pays_removal-removed.result in
+    let pays = b.pays_removal-removed.ensures in (
       λ p read.
-          arc_read a.sheet a.option a.start a.end o.0 kept made removed pays a.units.now u.add-arc.new.0 (λ (k : Kept). rounded k.discount) p read
-          u.add-arc.ensures,
+          arc_read a.sheet a.option a.start a.end o.0 kept made removed pays a.units.now u.add_arc.new.words (λ (k : Kept). rounded k.discount) p read
+          u.add_arc.ensures,
       (
         λ p read.
-            arc_read a.sheet a.option a.start a.end o.0 kept made removed pays a.cents.now m.add-arc2.new.0 (λ (k : Kept). in_money a.money) p read
-            m.add-arc2.ensures,
+            arc_read a.sheet a.option a.start a.end o.0 kept made removed pays a.cents.now m.add_arc-2.new.words (λ (k : Kept). in_money a.money) p read
+            m.add_arc-2.ensures,
         (
-          units-below a.sheet a.option a.start a.end o.0 kept made removed pays a.units.now u.add-arc.new.0 h.fit o.1 o.2 _
-              h.units_room u.add-arc.ensures,
-          cents-below a.sheet a.option a.start a.end o.0 kept made removed pays a.cents.now m.add-arc2.new.0 h.fit o.1 o.2 _
-              h.cents_room a.money h.counts m.add-arc2.ensures,
+          units-below a.sheet a.option a.start a.end o.0 kept made removed pays a.units.now u.add_arc.new.words h.fit o.1 o.2 _
+              h.units_room u.add_arc.ensures,
+          cents-below a.sheet a.option a.start a.end o.0 kept made removed pays a.cents.now m.add_arc-2.new.words h.fit o.1 o.2 _
+              h.cents_room a.money h.counts m.add_arc-2.ensures,
         ),
       ),
     )
@@ -110,12 +110,4 @@ returns c =
 pub add_activity_spec : {M : Type 1} → statement M
 add_activity_spec =
     tie.close
-    (tie.spec
-    kept-of-requires
-    pays-removal-requires
-    sub-years
-    add-arc-requires
-    add-arc-requires-2
-    same_length
-    same-length-2
-    returns)
+    (tie.spec kept-of-requires pays-removal-requires sub-years add-arc-requires add-arc-requires-2 same_length same-length-2 returns)

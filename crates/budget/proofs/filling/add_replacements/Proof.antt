@@ -25,7 +25,7 @@ use Rattle.budget.proofs.filling.add_replacements.Tie as tie
 abbrev falls : (Payment → ℕ) → PlanningSheet → (y year : ℕ) (plan : List ℕ) (at left : ℕ) → ℕ
 falls φ p y year plan at left = fallen φ y (payments_of (arcs_of p (replacements year (ends_at plan at left))))
 
-abbrev invariant-loop : tie.invariant-loop
+abbrev invariant-loop : tie.invariant-loop-left
 invariant-loop units₀ cents₀ sheet discount money start plan count year₀ at₀ left₀ units cents year at left =
     (at + 2 * left ≡ plan_size count)
     × Climbs sheet.horizon year (ends_at plan at left)
@@ -38,77 +38,77 @@ invariant-loop units₀ cents₀ sheet discount money start plan count year₀ a
     × ((p : PlanningSheet) → sheet ≡ parsed p → (y : ℕ)
     → get_or cents y 0 + falls (in_money money) p y year plan at left ≡ get_or cents₀ y 0 + falls (in_money money) p y start plan 19 count)
 
-abbrev decreases-loop : tie.decreases-loop
+abbrev decreases-loop : tie.decreases-loop-left
 decreases-loop units₀ cents₀ sheet discount money start plan count year₀ at₀ left₀ units cents year at left = left
 
 -- where the code starts
-abbrev start : tie.At-loop invariant-loop decreases-loop → tie.Start invariant-loop decreases-loop
+abbrev start : tie.At-loop-left invariant-loop decreases-loop → tie.Start invariant-loop decreases-loop
 start c = c.before.before.before.before
 
-loop-holds : tie.Need-loop-init invariant-loop decreases-loop
+loop-holds : tie.Need-loop-left-init invariant-loop decreases-loop
 loop-holds c =
     let s = c.before.before.before in
     let h = s.requires.0.0 in
     (refl, s.requires.1, refl, refl, h.units_room, h.cents_room, λ p read y. refl, λ p read y. refl)
 
-u16-at-requires : tie.Need-u16-at-requires invariant-loop decreases-loop
-u16-at-requires c κs = omega (arith, (start c.before).pre.0.2)
+u16-at-requires : tie.Need-u16_at-end-requires invariant-loop decreases-loop
+u16-at-requires c κs = omega (arith, (start c.before).requires.0.2)
 
 -- the next end, and the years behind it
 next :
-    (c : tie.After-u16-at invariant-loop decreases-loop) →
-    let loop = c.before.before.loop in
+    (c : tie.After-u16_at-end invariant-loop decreases-loop) →
+    let loop = c.before.before.loop-left in
     let a = (start c.before.before).args in
-    let end = c.u16-at.result in
+    let end = c.u16_at-end.result in
     (loop.year < end) × Climbs a.sheet.horizon end (ends_at a.plan.now (loop.at + 2) (loop.left - 1))
 next c =
-    let loop = c.before.before.loop in
-    climbs_next _ loop.at loop.left (omega arith) c.u16-at.ensures.0 _ loop.year loop.invariant.1
+    let loop = c.before.before.loop-left in
+    climbs_next _ loop.at loop.left (omega arith) c.u16_at-end.ensures.0 _ loop.year loop.invariant.1
 
-add-activity-requires : tie.Need-add-activity-requires invariant-loop decreases-loop
+add-activity-requires : tie.Need-add_activity-requires invariant-loop decreases-loop
 add-activity-requires c κs =
     let u = c.before.before in
     let l = u.before.before in
     let s = start l in
-    let h = s.pre.0.0 in
+    let h = s.requires.0.0 in
     let n = next u in
     let up = n.0 in (
       (
         record {
           fit = h.fit;
           counts = h.counts;
-          units_long = omega (arith, h.units_long, l.loop.invariant.2);
-          units_room = l.loop.invariant.4;
-          cents_long = omega (arith, h.cents_long, l.loop.invariant.3);
-          cents_room = l.loop.invariant.5;
+          units_long = omega (arith, h.units_long, l.loop-left.invariant.2);
+          units_room = l.loop-left.invariant.4;
+          cents_long = omega (arith, h.cents_long, l.loop-left.invariant.3);
+          cents_room = l.loop-left.invariant.5;
         },
-        s.pre.0.1,
+        s.requires.0.1,
       ),
       (omega arith, omega arith, n.1.early),
     )
 
-add_at : tie.Need-overflow-add-at invariant-loop decreases-loop
+add_at : tie.Need-overflow_add-at invariant-loop decreases-loop
 add_at c = omega arith
 
-sub-left : tie.Need-overflow-sub-left invariant-loop decreases-loop
+sub-left : tie.Need-overflow_sub-left invariant-loop decreases-loop
 sub-left c = omega arith
 
-loop-less : tie.Need-loop-smaller invariant-loop decreases-loop
+loop-less : tie.Need-loop-left-smaller invariant-loop decreases-loop
 loop-less c = omega arith
 
-loop-again : tie.Need-loop-preserved invariant-loop decreases-loop
+loop-again : tie.Need-loop-left-preserved invariant-loop decreases-loop
 loop-again c =
     let t = c.before.before.before.before in
     let u = t.before.before.before in
     let l = u.before.before in
     let a = (start l).args in
     let plan = a.plan.now in
-    let loop = l.loop in
-    let did = t.add-activity.ensures in (
+    let loop = l.loop-left in
+    let did = t.add_activity.ensures in (
       omega arith,
       (next u).1,
-      t.add-activity.auto.0 ∙ loop.invariant.2,
-      t.add-activity.auto.1.0 ∙ loop.invariant.3,
+      t.add_activity.auto.units ∙ loop.invariant.2,
+      t.add_activity.auto.cents ∙ loop.invariant.3,
       did.1.1.0,
       did.1.1.1,
       λ p read y.
@@ -116,45 +116,33 @@ loop-again c =
             arith,
             loop.invariant.6 p read y,
             did.0 p read y,
-            falls_next (rounded (1_000_000 + p.rate)) p y plan loop.at loop.left (omega arith) u.u16-at.ensures.0 loop.year,
+            falls_next (rounded (1_000_000 + p.rate)) p y plan loop.at loop.left (omega arith) u.u16_at-end.ensures.0 loop.year,
           ),
       λ p read y.
           omega (
             arith,
             loop.invariant.7 p read y,
             did.1.0 p read y,
-            falls_next (in_money a.money) p y plan loop.at loop.left (omega arith) u.u16-at.ensures.0 loop.year,
+            falls_next (in_money a.money) p y plan loop.at loop.left (omega arith) u.u16_at-end.ensures.0 loop.year,
           ),
     )
 
-same_length : tie.Need-same-length invariant-loop decreases-loop
-same_length c = c.before.loop.invariant.2
+same_length : tie.Need-shape_of-units invariant-loop decreases-loop
+same_length c = c.before.loop-left.invariant.2
 
-same-length-2 : tie.Need-same-length-2 invariant-loop decreases-loop
-same-length-2 c = c.before.loop.invariant.3
+same-length-2 : tie.Need-shape_of-cents invariant-loop decreases-loop
+same-length-2 c = c.before.loop-left.invariant.3
 
 returns : tie.Need-returns invariant-loop decreases-loop
 returns c =
     let l = c.before in
     let a = (start l).args in
     let plan = a.plan.now in (
-      λ p read y. omega (arith, l.loop.invariant.6 p read y, falls_none (rounded (1_000_000 + p.rate)) p y plan l.loop.at l.loop.year {left = l.loop.left} (omega arith)),
-      λ p read y. omega (arith, l.loop.invariant.7 p read y, falls_none (in_money a.money) p y plan l.loop.at l.loop.year {left = l.loop.left} (omega arith)),
+      λ p read y. omega (arith, l.loop-left.invariant.6 p read y, falls_none (rounded (1_000_000 + p.rate)) p y plan l.loop-left.at l.loop-left.year {left = l.loop-left.left} (omega arith)),
+      λ p read y. omega (arith, l.loop-left.invariant.7 p read y, falls_none (in_money a.money) p y plan l.loop-left.at l.loop-left.year {left = l.loop-left.left} (omega arith)),
     )
 
 pub add_replacements_spec : {M : Type 1} → statement M
 add_replacements_spec =
     tie.close
-    (tie.spec
-    invariant-loop
-    decreases-loop
-    loop-holds
-    u16-at-requires
-    add-activity-requires
-    add_at
-    sub-left
-    loop-less
-    loop-again
-    same_length
-    same-length-2
-    returns)
+    (tie.spec invariant-loop decreases-loop loop-holds u16-at-requires add-activity-requires add_at sub-left loop-less loop-again same_length same-length-2 returns)
