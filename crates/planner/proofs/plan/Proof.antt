@@ -70,7 +70,7 @@ lent c =
 returns-3 : tie.Need-returns
 returns-3 c =
     let w = c.before.before in
-    let t = w.before.before.before.before.before.before.before in
+    let t = w.before.before.before.before.before.before in
     let q = t.before.before.before in
     let read = q.parse-parsed.ensures in
     plan_answers _ _ _
@@ -99,7 +99,7 @@ slice-aggregate-write-chosen c = search rules
 
 write-chosen-requires : tie.Need-write_chosen-requires
 write-chosen-requires c κs =
-    let t = c.before.before.before.before.before.before in
+    let t = c.before.before.before.before.before in
     (fits t.before.before.before, (lent t).0, (lent t).1)
 
 same_length : tie.Need-shape_of-plan
