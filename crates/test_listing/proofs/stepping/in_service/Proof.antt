@@ -1,19 +1,22 @@
 -- Each turn takes a step, and the years end. Assumes nothing.
 use Rattle.std.proofs.Common.{◌-◌, ◌≤◌, rules}
-use Rattle.test_listing.proofs.steps.plain.Statement.{statement}
-use Rattle.test_listing.proofs.steps.plain.Tie as tie
+use Rattle.test_listing.proofs.stepping.in_service.Statement.{statement}
+use Rattle.test_listing.proofs.stepping.in_service.Tie as tie
 
 abbrev invariant-loop : tie.invariant-loop
-invariant-loop amount growth rate years a₀ counter₀ a counter = counter ≤ years
+invariant-loop amount y rate years a₀ counter₀ a counter = counter ≤ years
 
 abbrev decreases-loop : tie.decreases-loop
-decreases-loop amount growth rate years a₀ counter₀ a counter = years - counter
+decreases-loop amount y rate years a₀ counter₀ a counter = years - counter
 
 loop-holds : tie.Need-loop-init invariant-loop decreases-loop
 loop-holds c = search rules
 
 up-requires : tie.Need-up-requires invariant-loop decreases-loop
 up-requires c κs = search rules
+
+up-requires-2 : tie.Need-up-requires-2 invariant-loop decreases-loop
+up-requires-2 c κs = search rules
 
 add-counter : tie.Need-overflow-add-counter invariant-loop decreases-loop
 add-counter c = search rules
@@ -27,7 +30,16 @@ loop-again c = search rules
 returns : tie.Need-returns invariant-loop decreases-loop
 returns c = search rules
 
-pub plain_spec : {M : Type 1} → statement M
-plain_spec =
+pub in_service_spec : {M : Type 1} → statement M
+in_service_spec =
     tie.close
-    (tie.spec invariant-loop decreases-loop loop-holds up-requires add-counter loop-less loop-again returns)
+    (tie.spec
+    invariant-loop
+    decreases-loop
+    loop-holds
+    up-requires
+    up-requires-2
+    add-counter
+    loop-less
+    loop-again
+    returns)
