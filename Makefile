@@ -4,9 +4,10 @@
 #                DESTDIR, if given, stands before it, and nimovalsa.pc does not name it
 # make plan      prints the plan of the sheet that the text file SHEET describes, and nothing else
 # make test      runs the gate, .ci/run
-# make clean     removes target/
+# make clean     removes target/, and what rt keeps in each crate's folder out/
 #
-# rt decides what is out of date, so its rules always run; what it prints goes to standard error.
+# rt makes the archive and planshow in their crates' folders out/, and decides what is out of date, so its rules always run; what it
+# prints goes to standard error. rt run builds planshow and also runs it, here on no sheet.
 
 PREFIX ?= /usr/local
 DESTDIR ?=
@@ -28,7 +29,9 @@ place = $(DESTDIR)$(PREFIX)
 all: archive shared example planshow
 
 archive:
-	@rt staticlib nimovalsa >&2
+	@cd crates/nimovalsa && rt lib >&2
+	@mkdir -p $(dir $(archive))
+	@cp -f crates/nimovalsa/out/libnimovalsa.a $(archive)
 
 # Moved to its name when it is whole: loading a library that was cut off ends the process without a word.
 shared: archive
@@ -37,7 +40,9 @@ shared: archive
 	@mv $(shared).new $(shared)
 
 planshow:
-	@rt check planshow >&2
+	@cd crates/planshow && rt run </dev/null >/dev/null
+	@mkdir -p $(dir $(planshow))
+	@cp -f crates/planshow/out/planshow $(planshow)
 
 example: archive
 	@mkdir -p target/examples
@@ -65,4 +70,4 @@ test:
 	.ci/run
 
 clean:
-	rm -rf target
+	rm -rf target crates/*/out

@@ -28,7 +28,7 @@ static void print_processor(void)
 static void print_head(void)
 {
     print_processor();
-    printf("library    target/staticlib/libnimovalsa.a, made by rt staticlib\n"
+    printf("library    target/staticlib/libnimovalsa.a, made by rt lib\n"
            "plain C    the same method in C, dividing by /; gcc %s %s\n"
            "C, recip.  the same text, dividing as the library does\n\n"
            "Processor time of one call: the median of %d rounds in which the three take turns, each round\n"

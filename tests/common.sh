@@ -21,7 +21,7 @@ fail() {
 
 need_archive() {
     [ -f "$archive" ] ||
-        stop "target/staticlib/libnimovalsa.a is missing, make it with: rt staticlib nimovalsa"
+        stop "target/staticlib/libnimovalsa.a is missing, make it with: make archive"
 }
 
 need() {

@@ -3,7 +3,7 @@
 
 use crate::figures::{Overhauls, Removal, Terms, Yearly};
 use crate::numbers::{minus, plus};
-use crate::steps::{in_service, plain, units};
+use crate::stepping::{in_service, plain, units};
 
 fn yearly(y: Yearly, rate: u64, since: u64, start: u64, years: u64) -> u64 {
     let mut sum = 0;

@@ -19,7 +19,7 @@ mod numbers;
 mod rates;
 mod sheets;
 mod show;
-mod steps;
+mod stepping;
 mod written;
 
 use compared::Tally;

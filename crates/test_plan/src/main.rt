@@ -6,12 +6,12 @@
 
 mod document;
 mod faulty;
+mod lent_words;
 mod paper;
 mod planned;
 mod postponed;
 mod removals;
 mod show;
-mod tails;
 
 fn main() {
     document::cases();
@@ -23,8 +23,8 @@ fn main() {
     removals::plans();
     document::lengths();
     faulty::sheets();
-    tails::cases();
-    tails::replacements();
-    tails::none();
+    lent_words::cases();
+    lent_words::replacements();
+    lent_words::none();
     removals::words();
 }

@@ -1,9 +1,9 @@
 // Document 02, request 6: case 12 with removal 3; a sheet that pays removals alone, and none where it is maintained and then renovated up to T; a
 // sheet on which a removal of 6 makes one replacement cheaper than two; and the paper's case study.
 
+use crate::lent_words::{years_0_to_4, years_to_300};
 use crate::paper::five_replacements;
 use crate::planned::amply;
-use crate::tails::{years_0_to_4, years_to_300};
 use test_sheets::removals;
 
 pub fn plans() {

@@ -3,97 +3,88 @@
 
 #![tactic(auto)]
 
-const OUT: i32 = 1;
-
-fn heading(name: &[u8]) {
-    io::write_all(OUT, name);
-    io::write_all(OUT, b"\n");
-}
+use std::io::{Read, Write};
+use std::rt::Files;
+use std::{fs, io};
 
 // Of a file, one byte more than the longest sheet at most.
-fn shown(name: &[u8]) {
-    heading(name);
-    let file = os::open_read(name);
-    if file < 0 {
-        os::fail(name);
-        return;
-    }
-    let mut sheet = [0u8; 303];
-    let length = io::read_full(file, &mut sheet);
-    libc::close(file);
+fn shown(rt: &(impl Files + Print + Alloc), name: &str) -> io::Result<()> {
+    println!(rt; "{name}")?;
+    let mut sheet = Vec::new(rt.alloc());
+    fs::open(rt, name)?.take(303).read_to_end(&mut sheet)?;
     let mut text = [0u8; 6069];
-    let printed = printing::show(&sheet[..length], &mut text);
-    io::write_all(OUT, &text[..printed]);
+    let printed = printing::show(&sheet, &mut text);
+    io::writer(rt).write_all(&text[..printed])
 }
 
 // Cases 6 to 12 of document 01, the paper's case study, and sheets on which all options, or replacements in every year, are taken.
-fn planned() {
-    shown(b"case-06.sheet");
-    shown(b"case-07-and-08.sheet");
-    shown(b"case-09.sheet");
-    shown(b"case-10.sheet");
-    shown(b"case-11.sheet");
-    shown(b"case-12.sheet");
-    shown(b"pumping-station.sheet");
-    shown(b"all-three.sheet");
-    shown(b"every-year.sheet");
+fn planned(rt: &(impl Files + Print + Alloc)) -> io::Result<()> {
+    shown(rt, "case-06.sheet")?;
+    shown(rt, "case-07-and-08.sheet")?;
+    shown(rt, "case-09.sheet")?;
+    shown(rt, "case-10.sheet")?;
+    shown(rt, "case-11.sheet")?;
+    shown(rt, "case-12.sheet")?;
+    shown(rt, "pumping-station.sheet")?;
+    shown(rt, "all-three.sheet")?;
+    shown(rt, "every-year.sheet")
 }
 
 // Document 01's run-only cases at their limits.
-fn run_only() {
-    shown(b"inflation-at-the-rate.sheet");
-    shown(b"ageing-at-the-rate.sheet");
+fn run_only(rt: &(impl Files + Print + Alloc)) -> io::Result<()> {
+    shown(rt, "inflation-at-the-rate.sheet")?;
+    shown(rt, "ageing-at-the-rate.sheet")
 }
 
 // Sheets of version 2, with removals.
-fn with_removal() {
-    shown(b"case-12-removed.sheet");
-    shown(b"removals-unpaid.sheet");
-    shown(b"all-three-removed.sheet");
-    shown(b"pumping-station-removed.sheet");
-    shown(b"removals-at-their-limits.sheet");
+fn with_removal(rt: &(impl Files + Print + Alloc)) -> io::Result<()> {
+    shown(rt, "case-12-removed.sheet")?;
+    shown(rt, "removals-unpaid.sheet")?;
+    shown(rt, "all-three-removed.sheet")?;
+    shown(rt, "pumping-station-removed.sheet")?;
+    shown(rt, "removals-at-their-limits.sheet")
 }
 
 // Refusals 1 to 4.
-fn refused_by_the_header() {
-    shown(b"refused-1-empty.sheet");
-    shown(b"refused-1-short.sheet");
-    shown(b"refused-1-long.sheet");
-    shown(b"refused-1-short-removed.sheet");
-    shown(b"refused-1-long-removed.sheet");
-    shown(b"refused-2-mark.sheet");
-    shown(b"refused-2-version.sheet");
-    shown(b"refused-2-version-removed.sheet");
-    shown(b"refused-3-none.sheet");
-    shown(b"refused-3-late.sheet");
-    shown(b"refused-4.sheet");
+fn refused_by_the_header(rt: &(impl Files + Print + Alloc)) -> io::Result<()> {
+    shown(rt, "refused-1-empty.sheet")?;
+    shown(rt, "refused-1-short.sheet")?;
+    shown(rt, "refused-1-long.sheet")?;
+    shown(rt, "refused-1-short-removed.sheet")?;
+    shown(rt, "refused-1-long-removed.sheet")?;
+    shown(rt, "refused-2-mark.sheet")?;
+    shown(rt, "refused-2-version.sheet")?;
+    shown(rt, "refused-2-version-removed.sheet")?;
+    shown(rt, "refused-3-none.sheet")?;
+    shown(rt, "refused-3-late.sheet")?;
+    shown(rt, "refused-4.sheet")
 }
 
 // Refusals 5 to 9.
-fn refused_by_a_record() {
-    shown(b"refused-5-maintain.sheet");
-    shown(b"refused-5-replace.sheet");
-    shown(b"refused-6-renovate.sheet");
-    shown(b"refused-7-maintain.sheet");
-    shown(b"refused-7-replace.sheet");
-    shown(b"refused-8-renovate.sheet");
-    shown(b"refused-8-replace.sheet");
-    shown(b"refused-9-maintain.sheet");
-    shown(b"refused-9-renovate.sheet");
-    shown(b"refused-9-replace.sheet");
+fn refused_by_a_record(rt: &(impl Files + Print + Alloc)) -> io::Result<()> {
+    shown(rt, "refused-5-maintain.sheet")?;
+    shown(rt, "refused-5-replace.sheet")?;
+    shown(rt, "refused-6-renovate.sheet")?;
+    shown(rt, "refused-7-maintain.sheet")?;
+    shown(rt, "refused-7-replace.sheet")?;
+    shown(rt, "refused-8-renovate.sheet")?;
+    shown(rt, "refused-8-replace.sheet")?;
+    shown(rt, "refused-9-maintain.sheet")?;
+    shown(rt, "refused-9-renovate.sheet")?;
+    shown(rt, "refused-9-replace.sheet")
 }
 
 // Refusals 6 and 7 of a removal.
-fn refused_by_a_removal() {
-    shown(b"refused-6-removal.sheet");
-    shown(b"refused-7-removal.sheet");
+fn refused_by_a_removal(rt: &(impl Files + Print + Alloc)) -> io::Result<()> {
+    shown(rt, "refused-6-removal.sheet")?;
+    shown(rt, "refused-7-removal.sheet")
 }
 
-fn main() {
-    planned();
-    run_only();
-    with_removal();
-    refused_by_the_header();
-    refused_by_a_record();
-    refused_by_a_removal();
+fn main(rt: HostRuntime) -> io::Result<()> {
+    planned(&rt)?;
+    run_only(&rt)?;
+    with_removal(&rt)?;
+    refused_by_the_header(&rt)?;
+    refused_by_a_record(&rt)?;
+    refused_by_a_removal(&rt)
 }
