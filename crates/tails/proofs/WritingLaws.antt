@@ -1,25 +1,25 @@
 -- A list of one figure of the table's entries can be written from T down: first the figure of T (`last_first`), then that of each year before
 -- (`last_more`), two at a time (`last_two`), until all are written (`last_all`). The length is kept (`last-length`), and what is asked of the lists
 -- holds on (`fillable_on`) and is what settling a year asks (`fillable_settles`). Assumes nothing.
-use Prim.Native.Nat.{ℕ, zero, suc, ◌+◌, ◌-◌, ◌≤◌, ◌<◌}
-use mathlib.Core.Path.{◌≡◌, refl, sym, ap, ◌∙◌}
+use Prim.Native.Nat.{ℕ, suc, ◌+◌, ◌-◌, ◌≤◌, ◌<◌}
+use mathlib.Core.Path.{◌≡◌, sym, ap, ◌∙◌}
 use mathlib.Core.List.{List, map}
 use native.Mathlib.Nat.{sub-zero, sub_self}
 use native.Mathlib.Omega.{arith}
-use lib.ListN.{length, get_or, set, drop}
-use lib.Seq.{length-sets, get_or-drop, drop-drop}
-use Rattle.base.proofs.StoreLaws.{written_more, sets-cons, sets_same}
+use lib.ListN.{length, set}
+use lib.Seq.{length-sets}
+use Rattle.base.proofs.StoreLaws.{sets-cons}
 use Rattle.division.specs.declared.Divisor.{Divisor}
 use Rattle.sheet.specs.Sheet.{PlanningSheet, replace}
 use Rattle.sheet.specs.Parsed.{parsed}
 use Rattle.sheet.specs.declared.Sheet.{Sheet}
 use Rattle.sheet.proofs.ParsedLaws.{horizon_read}
 use Rattle.checking.specs.Fit.{SheetFits}
-use Rattle.choice.specs.Running.{Entry, no_entry}
-use Rattle.choice.specs.Table.{nothing_left, table, entry}
-use Rattle.choice.proofs.TableLaws.{table-last, table-length, table-cons}
+use Rattle.choice.specs.Running.{Entry}
+use Rattle.choice.specs.Table.{nothing_left, table}
+use Rattle.choice.proofs.TableLaws.{table-last, table-cons}
 use Rattle.tails.specs.Tail.{best_end, tail_from}
-use Rattle.tails.specs.Words.{total_of, tails, of_years}
+use Rattle.tails.specs.Words.{tails, of_years}
 use Rattle.tails.specs.Writing.{with_year, of_last, YearWritten, TwoWritten, LastWritten, AllWritten, Settles, Fillable}
 
 module _ (p : PlanningSheet) where

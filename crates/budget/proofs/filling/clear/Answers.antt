@@ -1,5 +1,5 @@
 -- The answers that no tactic finds.
-use Prim.Native.Nat.{◌+◌, ◌-◌, ◌<◌}
+use Prim.Native.Nat.{◌+◌, ◌<◌}
 use mathlib.Core.Path.{refl, ◌∙◌}
 use native.Mathlib.Omega.{arith}
 use native.Mathlib.Nat.{not-suc-le-zero}
@@ -26,6 +26,6 @@ shape_of-words c = c.loop-k.invariant.1
 
 pub returns : goal.returns
 returns c = let h = c.loop-k.invariant in record {
-      cleared = λ y l. h.2 y (omega arith);
-      behind = λ y l. h.3 y (omega arith);
-    }
+  cleared = λ y l. h.2 y (omega arith);
+  behind = λ y l. h.3 y (omega arith);
+}

@@ -1,5 +1,4 @@
 -- The answers that no tactic finds.
-use Prim.Native.Nat.{◌-◌}
 use mathlib.Core.Path.{refl, sym, ◌∙◌}
 use native.Mathlib.Omega.{arith}
 use Rattle.chain.proofs.WriteLaws.{sets_end, sets_no_end}

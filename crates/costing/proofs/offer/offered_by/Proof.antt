@@ -4,7 +4,6 @@ use mathlib.Core.Path.{◌≡◌, ap, sym, ◌∙◌}
 use mathlib.Core.Bool.{true}
 use native.Mathlib.Omega.{arith}
 use borrow.Author.Rules.{rules}
-use borrow.Author.Tests.{not-true, not-false}
 use Rattle.base.proofs.TestLaws.{and_of_false, and_of_true}
 use Rattle.costing.specs.Offered.{placed, length_offered}
 use Rattle.costing.proofs.OfferedLaws.{placed-iff}

@@ -1,5 +1,4 @@
 -- The answers that no tactic finds.
-use Prim.Native.Nat.{◌-◌}
 use mathlib.Core.Path.{◌≡◌, ap, ◌∙◌}
 use native.Mathlib.Omega.{arith}
 use Rattle.nominal.specs.Nominal.{cents}

@@ -3,7 +3,6 @@ use Prim.Native.Nat.{ℕ, ◌+◌}
 use mathlib.Core.Path.{◌≡◌, sym, subst, ◌∙◌}
 use native.Mathlib.Omega.{arith}
 use borrow.Author.Rules.{rules}
-use borrow.Author.Tests.{not-true, not-false}
 use Rattle.steps.specs.Payment.{rounded}
 use Rattle.costing.specs.Arc.{removal}
 use Rattle.costing.proofs.SizeLaws.{removal-le}

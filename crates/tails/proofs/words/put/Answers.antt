@@ -7,6 +7,6 @@ use Rattle.tails.proofs.words.put.Goals as goal
 
 pub returns : goal.returns
 returns c = record {
-      words = ap (λ (total : ℕ). set c.args.words.now c.args.year total) (omega arith);
-      firsts = ap (λ (end : ℕ). set c.args.firsts.now c.args.year end) (omega arith);
-    }
+  words = ap (λ (total : ℕ). set c.args.words.now c.args.year total) (omega arith);
+  firsts = ap (λ (end : ℕ). set c.args.firsts.now c.args.year end) (omega arith);
+}
