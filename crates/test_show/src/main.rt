@@ -3,22 +3,40 @@
 
 #![tactic(auto)]
 
+ghost use Rattle.std.specs.Prelude.{◌≤◌, length, IfOk};
+
 use std::io::{Read, Write};
 use std::rt::Files;
 use std::{fs, io};
 
+// Reads until the buffer is full or the file ends, and answers how many bytes that are.
+fn read_full<R: Read>(file: &mut R, buffer: &mut [u8]) -> io::Result<usize>
+    ensures { IfOk result (λ n. n ≤ length buffer.new) }
+{
+    let mut done = 0;
+    while done < buffer.len() {
+        let count = file.read(&mut buffer[done..])?;
+        if count == 0 {
+            break;
+        }
+        done += count;
+    }
+    Ok(done)
+}
+
 // Of a file, one byte more than the longest sheet at most.
-fn shown(rt: &(impl Files + Print + Alloc), name: &str) -> io::Result<()> {
+fn shown(rt: &(impl Files + Print), name: &str) -> io::Result<()> {
     println!(rt; "{name}")?;
-    let mut sheet = Vec::new(rt.alloc());
-    fs::open(rt, name)?.take(303).read_to_end(&mut sheet)?;
+    let mut file = fs::open(rt, name)?;
+    let mut sheet = [0u8; 303];
+    let length = read_full(&mut file, &mut sheet)?;
     let mut text = [0u8; 6069];
-    let printed = printing::show(&sheet, &mut text);
+    let printed = printing::show(&sheet[..length], &mut text);
     io::writer(rt).write_all(&text[..printed])
 }
 
 // Cases 6 to 12 of document 01, the paper's case study, and sheets on which all options, or replacements in every year, are taken.
-fn planned(rt: &(impl Files + Print + Alloc)) -> io::Result<()> {
+fn planned(rt: &(impl Files + Print)) -> io::Result<()> {
     shown(rt, "case-06.sheet")?;
     shown(rt, "case-07-and-08.sheet")?;
     shown(rt, "case-09.sheet")?;
@@ -31,13 +49,13 @@ fn planned(rt: &(impl Files + Print + Alloc)) -> io::Result<()> {
 }
 
 // Document 01's run-only cases at their limits.
-fn run_only(rt: &(impl Files + Print + Alloc)) -> io::Result<()> {
+fn run_only(rt: &(impl Files + Print)) -> io::Result<()> {
     shown(rt, "inflation-at-the-rate.sheet")?;
     shown(rt, "ageing-at-the-rate.sheet")
 }
 
 // Sheets of version 2, with removals.
-fn with_removal(rt: &(impl Files + Print + Alloc)) -> io::Result<()> {
+fn with_removal(rt: &(impl Files + Print)) -> io::Result<()> {
     shown(rt, "case-12-removed.sheet")?;
     shown(rt, "removals-unpaid.sheet")?;
     shown(rt, "all-three-removed.sheet")?;
@@ -46,7 +64,7 @@ fn with_removal(rt: &(impl Files + Print + Alloc)) -> io::Result<()> {
 }
 
 // Refusals 1 to 4.
-fn refused_by_the_header(rt: &(impl Files + Print + Alloc)) -> io::Result<()> {
+fn refused_by_the_header(rt: &(impl Files + Print)) -> io::Result<()> {
     shown(rt, "refused-1-empty.sheet")?;
     shown(rt, "refused-1-short.sheet")?;
     shown(rt, "refused-1-long.sheet")?;
@@ -61,7 +79,7 @@ fn refused_by_the_header(rt: &(impl Files + Print + Alloc)) -> io::Result<()> {
 }
 
 // Refusals 5 to 9.
-fn refused_by_a_record(rt: &(impl Files + Print + Alloc)) -> io::Result<()> {
+fn refused_by_a_record(rt: &(impl Files + Print)) -> io::Result<()> {
     shown(rt, "refused-5-maintain.sheet")?;
     shown(rt, "refused-5-replace.sheet")?;
     shown(rt, "refused-6-renovate.sheet")?;
@@ -75,7 +93,7 @@ fn refused_by_a_record(rt: &(impl Files + Print + Alloc)) -> io::Result<()> {
 }
 
 // Refusals 6 and 7 of a removal.
-fn refused_by_a_removal(rt: &(impl Files + Print + Alloc)) -> io::Result<()> {
+fn refused_by_a_removal(rt: &(impl Files + Print)) -> io::Result<()> {
     shown(rt, "refused-6-removal.sheet")?;
     shown(rt, "refused-7-removal.sheet")
 }
