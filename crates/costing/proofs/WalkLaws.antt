@@ -1,5 +1,6 @@
 -- Where a walk stands before its first year, and one year on (`walk-zero`, `walk-suc`); a walk of a year or more has paid its arc
--- (`walk-paid`); and what the overhauls of a year cost, added one by one (`due_by`). Assumes nothing.
+-- (`walk-paid`), and an arc of no year pays nothing (`paid_free`); and what the overhauls of a year cost, added one by one (`due_by`). Assumes
+-- nothing.
 use Prim.Native.Nat.{ℕ, zero, suc, ◌+◌, ◌-◌, ◌^◌, ◌≤◌, ◌<◌}
 use mathlib.Core.Path.{◌≡◌, refl, ap, sym, ◌∙◌}
 use native.Mathlib.Omega.{arith}
@@ -164,3 +165,7 @@ due_by_all a n = refl
 pub due_by-lt : (a : Kept) → KeptFits a → (n k : ℕ) → k ≤ a.terms.overhauls.count → due_by a n k < 2 ^ 64
 unfolding due_by
 due_by-lt a h n k l = let room = overhauls_le a h n k l in omega arith
+
+-- an arc of no year pays nothing
+pub paid_free : (a : Kept) (years : ℕ) → years ≡ 0 → 0 ≡ worth a (paid a years)
+paid_free a years none = rw none (sym (Sum.paid-zero (rounded a.discount) a))

@@ -71,6 +71,7 @@ impl Kept {
     }
 
     // What an arc of that many years pays, but for its removal.
+    #[tactic(auto, using(crate::proofs::WalkLaws::paid_free))]
     fn paid(self, discount: Divisor, years: u64) -> Units
         requires { Steppable self discount × (years ≤ 300) }
         ensures { result.0 ≡ worth self (paid self years) }

@@ -1,23 +1,18 @@
 -- The answers that no tactic finds.
 use Prim.Native.Nat.{ℕ, ◌+◌}
-use mathlib.Core.Path.{◌≡◌, ap, sym, ◌∙◌}
+use mathlib.Core.Path.{◌≡◌, ap, ◌∙◌}
 use native.Mathlib.Omega.{arith}
 use Rattle.costing.specs.Arc.{paid, worth}
 use Rattle.costing.specs.Walk.{overhauls_at, walk_at}
-use Rattle.costing.proofs.SumLaws.{paid-zero}
 use Rattle.costing.proofs.WalkLaws.{walk-paid, walk-years, walk_stands}
 use Rattle.costing.proofs.Kept.paid.Goals as goal
 
 pub returns : goal.returns
 returns c =
     let loop = c.loop-n in
-    let some = c.if-years-eq0.false in
     let all : loop.n ≡ c.args.years = omega arith in
     walk-paid _ _ _ loop.invariant.1 (omega arith)
     ∙ ap (λ (n : ℕ). worth c.args.self (paid c.args.self n)) all
-
-pub returns-then-years-eq0 : goal.returns-then-years-eq0
-returns-then-years-eq0 c = rw c.if-years-eq0.true (sym (paid-zero _ _))
 
 pub open-walk-requires : goal.open-walk-requires
 open-walk-requires c = c.requires.0
