@@ -47,7 +47,7 @@ Leads s j = (p : PlanningSheet) → s ≡ parsed p → (tail_from p j).total ≡
 abbrev pub best_kept : Kept → (T behind : ℕ) → (ahead : ℕ → ℕ) → Best
 best_kept a T behind ahead = best_to a T ahead (weigh numbers (in_short no_entry) 0 a.from behind)
 
--- how many arcs are weighed for it: length 0 and the longer ones
+-- for request 7, which no call answers yet: how many arcs are weighed for it, length 0 and the longer ones
 abbrev pub kept_arcs : Kept → (T : ℕ) → ℕ
 kept_arcs a T = 1 + weighed_to a T
 
@@ -70,7 +70,7 @@ Follows p j count ends = (count ≡ length (tail_from p j).ends) × (take count 
 abbrev pub EndsFrom : (shortest e : ℕ) → Type 0
 EndsFrom shortest e = (e ≡ 0) ⊎ (shortest ≤ e)
 
--- how many arcs are weighed for the years below i: those of renovating from each end of maintaining
+-- for request 7: how many arcs are weighed for the years below i, those of renovating from each end of maintaining
 abbrev pub EndsCounted : Sheet → (i arcs : ℕ) → Type 0
 EndsCounted s i arcs = (p : PlanningSheet) → s ≡ parsed p → arcs ≡ sum_over (renovate_arcs_from p) 0 i
 

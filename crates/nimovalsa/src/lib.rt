@@ -1,8 +1,9 @@
 // The C forms: each calls its Rattle form and packs the answer into one u64. A slice is a pointer and then a length.
 // The declarations for C are in include/nimovalsa.h.
 //
-// This page is all that is claimed of the six calls, for every input. The names below say where each definition stands. `x.old` is
-// what a buffer holds before the call and `x.new` after it; `answer_in r` is the total, number and option in what is returned.
+// This page is all that is claimed of the six calls, for every input. The names below say where each definition stands. Of a buffer that is
+// written `x.old` is what it holds before the call and `x.new` after it; `x.now` is what a slice that is only read holds; `answer_in r` is the
+// total, number and option in what is returned.
 
 #![tactic(auto)]
 

@@ -3,7 +3,6 @@
 --     s, plan, words      the sheet, and what the plan buffer and the lent words held before the call
 --     a, number, total      what was answered
 --     plan', words'      what the buffers hold after the call
---     arcs      how many arcs were weighed, which the Rattle call alone says (`PromisedCount`)
 -- They speak of document 01's rules alone (`checked`, `Passes`, `Feasible`, `rounded_total`, `exact_value`) and of the order of choice, not of how
 -- a chain is found. Definitions only.
 use Rattle.std.specs.Prelude.{ℕ, ◌+◌, ◌*◌, ◌≤◌, ◌<◌, ◌≡◌, List, ◌↔◌, length, get_or, take}
@@ -113,7 +112,8 @@ pub record Promised (s plan words : List ℕ) (a : Answer) (plan' words' : List 
   pub far : NoneFarBelow s a.number plan'
   pub left : Leaves a.number plan words plan' words'
 
--- The count equals the number of arcs the sheet offers, is 0 with every refusal, and is at most 120 × T + 14,762: request 7 of document 02.
+-- For request 7 of document 02, which no call answers yet: what will be owed of a count `arcs` of the arcs weighed. It equals the number of arcs the
+-- sheet offers, is 0 with every refusal, and is at most 120 × T + 14,762.
 pub record PromisedCount (s : List ℕ) (number arcs : ℕ) : Type 0 where
   pub offered : number ≡ 0 → arcs ≡ arcs_offered (sheet_of s)
   pub refused : (number ≡ 0 → ⊥) → arcs ≡ 0

@@ -1,5 +1,5 @@
--- What planning answers, what it leaves in its buffers, and how many arcs it says that it weighed: document 01, 'Feasible chains', and rows 10 to 12 of
--- its refusal table, with 10 as request 3 of document 02 has it; and request 7. Definitions only.
+-- What planning answers, and what it leaves in its buffers: document 01, 'Feasible chains', and rows 10 to 12 of its refusal table, with 10 as
+-- request 3 of document 02 has it. Definitions only.
 use Rattle.std.specs.Prelude.{ℕ, List, Bool, cond, ◌||◌, leb, ltb, eqb, length}
 use Rattle.std.proofs.lemmas.List.Edits.{sets}
 use Rattle.base.specs.Answer.{accepted, refused, ◌or_else◌}
@@ -56,7 +56,7 @@ plan_written p plan = cond (plan_touched (planning p (length plan)).number) (pla
 unfoldable pub words_after : (sheet plan words : List ℕ) → List ℕ
 words_after s plan words = cond (words_touched (plan_answer s plan words).number) (tail_words (sheet_of s) words) words
 
--- An accepted plan comes with the number of arcs its making weighed, which are those that the sheet offers; a refusal comes with 0.
+-- For request 7, which no call answers yet: with an accepted plan the number of arcs that the sheet offers, with a refusal 0.
 abbrev pub count_with : Answer → PlanningSheet → ℕ
 count_with a p = cond (eqb a.number 0) (arcs_offered p) 0
 

@@ -1,5 +1,5 @@
 -- How the words and the first ends are written, from T down: each is a list of one figure of the table's entries. Beside them the totals behind the
--- ends of a replacement are kept, which the choice from an earlier year goes by, and the arcs that were weighed are counted. Definitions only.
+-- ends of a replacement are kept, which the choice from an earlier year goes by. Definitions only.
 use Rattle.std.specs.Prelude.{ℕ, ◌≤◌, ◌+◌, ◌-◌, ◌%◌, ◌≡◌, List, map, length, set}
 use Rattle.std.proofs.lemmas.List.Edits.{sets}
 use Rattle.base.specs.Tally.{sum_over}
@@ -60,7 +60,7 @@ LastWritten figure s y before after = (p : PlanningSheet) → s ≡ parsed p →
 abbrev pub AllWritten : (figure : Entry → ℕ) → Sheet → (before after : List ℕ) → Type 0
 AllWritten figure s before after = (p : PlanningSheet) → s ≡ parsed p → after ≡ of_years figure p before
 
--- how many arcs are weighed for that: the replacements from each of n years, from year y on
+-- for request 7, which no call answers yet: how many arcs that takes, the replacements from each of n years, from year y on
 abbrev pub YearsCounted : Sheet → (y n arcs : ℕ) → Type 0
 YearsCounted s y n arcs = (p : PlanningSheet) → s ≡ parsed p → arcs ≡ sum_over (arcs_from p replace) y n
 

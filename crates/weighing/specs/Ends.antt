@@ -1,5 +1,4 @@
--- The ends of an option that is kept from a year: which it may have, what the arcs to them cost, the totals behind them, the choice of one, and how
--- many are weighed.
+-- The ends of an option that is kept from a year: which it may have, what the arcs to them cost, the totals behind them, and the choice of one.
 -- Definitions only.
 use Rattle.std.specs.Prelude.{ℕ, ◌+◌, ◌-◌, ◌*◌, ◌≤◌, ◌<◌, ◌≡◌, List, Bool, ◌&&◌, leb, length, get_or}
 use Rattle.base.specs.Tally.{how_many}
@@ -35,7 +34,8 @@ best_after a words best n = over_ends numbers (may_end a) (kept_cost a) words (a
 abbrev pub best_to : Kept → (T : ℕ) (words : ℕ → ℕ) → Best → Best
 best_to a T words best = best_after a words best (T - a.from)
 
--- how many arcs that takes: those to the ends that the option may have, in the first n years after its start, and up to T
+-- for request 7, which no call answers yet: how many arcs that takes, those to the ends that the option may have, in the first n years after its
+-- start, and up to T
 abbrev pub weighed_after : Kept → (n : ℕ) → ℕ
 weighed_after a n = how_many (may_end a) (a.from + 1) n
 
