@@ -6,4 +6,5 @@ pub mod ListsLaws
 pub mod StoreLaws
 pub mod NumberLaws
 pub mod AnswerLaws
+pub mod OutcomeLaws
 pub mod CallLaws

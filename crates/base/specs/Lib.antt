@@ -4,4 +4,5 @@ pub mod Lists
 pub mod Tally
 pub mod Numbers
 pub mod Answer
+pub mod Outcome
 pub mod Cases

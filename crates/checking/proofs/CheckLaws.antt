@@ -1,23 +1,39 @@
--- The check's two loops follow `checked`: one law for a turn of each loop, and one for each way out. Before them, that an answer which is
--- `checked` meets the contract (`check_answers`), and how large the discount factor is (`discount_small`). Assumes nothing.
+-- The check's two loops follow `checked`: one law for a turn of each loop, and one for each way out. Before them, that an outcome which
+-- answers as `checked` does accepts the sheets that pass (`check_accepts`), and how large the discount factor is (`discount_small`). Assumes
+-- nothing.
 use Prim.Native.Nat.{ℕ, ◌+◌, ◌≤◌, ◌<◌}
-use mathlib.Core.Path.{◌≡◌, sym, ◌∙◌}
+use mathlib.Core.Path.{◌≡◌, refl, sym, ap, ◌∙◌}
 use mathlib.Core.List.{List}
 use mathlib.Core.Bool.{true, false}
+use mathlib.Core.Logic.Iff
 use mathlib.Core.Logic.{◌↔◌}
 use native.Mathlib.Omega.{arith}
-use Rattle.base.specs.Answer.{accepted, refused, ◌unless◌else◌}
+use Rattle.std.specs.Prelude.{Result, Ok, Err, IsOk}
+use Rattle.base.specs.Answer.{accepted, refused, answered, ◌unless◌else◌}
 use Rattle.base.specs.declared.Answer.{Answer}
-use Rattle.base.proofs.AnswerLaws.{answered_some, or_else_stop}
+use Rattle.base.specs.declared.Refusal.{Refusal}
+use Rattle.base.specs.Outcome.{number_of, check_answer}
+use Rattle.base.proofs.AnswerLaws.{answered-iff, or_else_stop}
+use Rattle.base.proofs.OutcomeLaws.{number_pos, check_number}
 use Rattle.sheet.specs.Sheet.{OptionRecord, sheet_of}
 use Rattle.checking.specs.Refusals.{overhaul_ok, header_number, fields_number, overhaul_answer, first_below, option_answer, checked}
 use Rattle.checking.specs.Passes.{Passes}
 use Rattle.checking.proofs.FirstLaws.{first_suc, first_found}
 use Rattle.checking.proofs.PassesLaws.{header-iff, checked-iff}
 
--- an answer a, which is b, is that of `checked`, and it accepts exactly the sheets that pass
-pub check_answers : (s : List ℕ) (a b : Answer) → a ≡ b → b ≡ checked s → (a ≡ checked s) × ((a.number ≡ 0) ↔ Passes s)
-check_answers s a b p q = (p ∙ q, rw (p ∙ q) (checked-iff s))
+-- an outcome that answers as `checked` does accepts exactly the sheets that pass
+pub check_accepts : (s : List ℕ) (r : Result Unit Refusal) → check_answer r ≡ checked s → IsOk r ↔ Passes s
+check_accepts s r t = Iff.trans (Iff.symm (check_number r)) (rw t (checked-iff s))
+
+-- a refusal has a number, and is passed on as it is
+refusal_number : (h : Result Unit Refusal) (e : Refusal) → h ≡ Err e → (check_answer h).number ≡ 0 → ⊥
+refusal_number h e was n =
+    let p = number_pos e in
+    let m : number_of e ≡ 0 = rw was at n in
+    omega arith
+
+passed_on : (r h : Result Unit Refusal) (e y : Refusal) → h ≡ Err e → r ≡ Err y → y ≡ e → check_answer r ≡ check_answer h
+passed_on r h e y was is same = ap check_answer (is ∙ ap Err same ∙ sym was)
 
 -- the discount factor of a sheet whose header passes
 pub discount_small : (s : List ℕ) (discount : ℕ) → discount ≡ 1_000_000 + (sheet_of s).rate → header_number s ≡ 0 → discount ≤ 1_200_000
@@ -39,26 +55,41 @@ module _ (s : List ℕ) where
   unfolding option_answer
   next_option k j e f q g = first_suc k (option_answer (sheet_of s)) e ∙ rw (f, ← q, g)
 
-  -- the ways out
-  pub header_refused : (n : ℕ) → n ≡ header_number s → (n ≡ 0 → ⊥) → refused n 3 ≡ checked s
-  unfolding checked
-  header_refused n e h = rw (← e, answered_some n 3 h) (sym (or_else_stop (refused n 3) _ h))
+  -- the header's outcome: a refusal is the sheet's
+  pub header_passes : (h : Result Unit Refusal) (d : Unit {0}) → h ≡ Ok d → check_answer h ≡ answered (header_number s) 3 → header_number s ≡ 0
+  header_passes h d was found =
+      let z : (check_answer h).number ≡ 0 = rw was refl in
+      (answered-iff (header_number s) 3).0 (ap (λ (a : Answer). a.number) (sym found) ∙ z)
 
+  pub header_stops :
+      (r h : Result Unit Refusal) (e y : Refusal) → h ≡ Err e → r ≡ Err y → y ≡ e → check_answer h ≡ answered (header_number s) 3 →
+      check_answer r ≡ checked s
+  unfolding checked
+  header_stops r h e y was is same found =
+      let z : (answered (header_number s) 3).number ≡ 0 → ⊥ = λ n. refusal_number h e was (rw found n) in
+      passed_on r h e y was is same ∙ found ∙ sym (or_else_stop (answered (header_number s) 3) _ z)
+
+  -- the ways out behind it
   module _ (passed : header_number s ≡ 0) where
     pub all_passed : (k : ℕ) → k ≡ 3 → first_below k (option_answer (sheet_of s)) ≡ accepted 0 → accepted 0 ≡ checked s
     unfolding checked
     all_passed k q e = rw (passed, rw q at e)
 
     module _ (k : ℕ) (inside : k < 3) (before : first_below k (option_answer (sheet_of s)) ≡ accepted 0) where
-      option_refused : (n : ℕ) → (n ≡ 0 → ⊥) → option_answer (sheet_of s) k ≡ refused n k → refused n k ≡ checked s
+      option_stops : (a : Answer) → (a.number ≡ 0 → ⊥) → option_answer (sheet_of s) k ≡ a → a ≡ checked s
       unfolding checked
-      option_refused n h q =
+      option_stops a h q =
           let z : (option_answer (sheet_of s) k).number ≡ 0 → ⊥ = rw q h in
           rw passed (sym (first_found k 3 (option_answer (sheet_of s)) inside before z ∙ q))
 
-      pub fields_refused : (n : ℕ) → n ≡ fields_number (sheet_of s).rate ((sheet_of s).option k) → (n ≡ 0 → ⊥) → refused n k ≡ checked s
+      pub fields_stop :
+          (r h : Result Unit Refusal) (e y : Refusal) → h ≡ Err e → r ≡ Err y → y ≡ e →
+          check_answer h ≡ answered (fields_number (sheet_of s).rate ((sheet_of s).option k)) k → check_answer r ≡ checked s
       unfolding option_answer
-      fields_refused n e h = option_refused n h (rw (← e, answered_some n k h) (or_else_stop (refused n k) _ h))
+      fields_stop r h e y was is same found =
+          let a = answered (fields_number (sheet_of s).rate ((sheet_of s).option k)) k in
+          let z : a.number ≡ 0 → ⊥ = λ n. refusal_number h e was (rw found n) in
+          passed_on r h e y was is same ∙ found ∙ option_stops a z (or_else_stop a _ z)
 
       pub overhaul-refused :
           (j : ℕ) → fields_number (sheet_of s).rate ((sheet_of s).option k) ≡ 0 → j < 8 →
@@ -68,4 +99,11 @@ module _ (s : List ℕ) where
       overhaul-refused j f l e q =
           let found : overhaul_answer ((sheet_of s).option k) k j ≡ refused 9 k = rw q in
           let z : (overhaul_answer ((sheet_of s).option k) k j).number ≡ 0 → ⊥ = rw found (λ h. omega arith) in
-          option_refused 9 (λ h. omega arith) (rw f (first_found j 8 (overhaul_answer ((sheet_of s).option k) k) l e z ∙ found))
+          option_stops (refused 9 k) (λ h. omega arith) (rw f (first_found j 8 (overhaul_answer ((sheet_of s).option k) k) l e z ∙ found))
+
+-- an option's fields whose outcome accepts
+pub fields_pass :
+    (r k : ℕ) (o : OptionRecord) (h : Result Unit Refusal) (d : Unit {0}) → h ≡ Ok d → check_answer h ≡ answered (fields_number r o) k → fields_number r o ≡ 0
+fields_pass r k o h d was found =
+    let z : (check_answer h).number ≡ 0 = rw was refl in
+    (answered-iff (fields_number r o) k).0 (ap (λ (a : Answer). a.number) (sym found) ∙ z)

@@ -9,5 +9,6 @@ pub mod RuleLaws
 pub mod FirstLaws
 pub mod PassesLaws
 pub mod RangeLaws
+pub mod RowLaws
 pub mod CheckLaws
 pub mod FitLaws

@@ -2,10 +2,13 @@
 // A contract says what a rule of document 01 gives for every record of which the terms are the parsed form.
 
 ghost use Rattle.std.specs.Prelude.{◌≡◌, ℕ, ◌+◌, ◌≤◌, ℤ};
+ghost use Rattle.base.specs.Answer.{answered};
+ghost use Rattle.base.specs.Outcome.{place, check_answer};
 ghost use Rattle.sheet.specs.Sheet.{Expense, OptionRecord, factor};
 ghost use Rattle.sheet.specs.Parsed.{flow_of, terms_of};
 ghost use Rattle.checking.specs.Refusals.{lives_ok, amounts_ok, inflation_ok, inflations_ok, ageing_ok, ageings_ok, entry_ok, fields_number};
 
+use base::{Activity, Refusal};
 use sheet::{Flow, Terms};
 
 // 5: both lives 0, or in order and at most 120
@@ -80,25 +83,25 @@ pub fn entry_ok(count: u64, j: u64, before: u64, age: u64, amount: u64) -> bool
     (age == 0) & (amount == 0)
 }
 
-// The first of 5 to 9, the overhauls' entries left out, or 0.
-pub fn fields_number(discount: u64, t: Terms) -> u8
+// Refused as the first of 5 to 9, the overhauls' entries left out.
+pub fn fields(discount: u64, t: Terms, activity: Activity) -> Result<(), Refusal>
     requires { discount ≤ 1_200_000 }
-    ensures { (r : ℕ) (o : OptionRecord) → discount ≡ 1_000_000 + r → t ≡ terms_of o → result ≡ fields_number r o }
+    ensures { (r : ℕ) (o : OptionRecord) → discount ≡ 1_000_000 + r → t ≡ terms_of o → check_answer result ≡ answered (fields_number r o) (place activity) }
 {
     if !lives_ok(t) {
-        return 5;
+        return Err(Refusal::Lives(activity));
     }
     if !amounts_ok(t) {
-        return 6;
+        return Err(Refusal::Amount(activity));
     }
     if !inflations_ok(discount, t) {
-        return 7;
+        return Err(Refusal::Inflation(activity));
     }
     if !ageings_ok(discount, t) {
-        return 8;
+        return Err(Refusal::Ageing(activity));
     }
     if t.overhauls.count > 8 {
-        return 9;
+        return Err(Refusal::Overhauls(activity));
     }
-    0
+    Ok(())
 }

@@ -4,11 +4,12 @@
 #![tactic(auto)]
 
 ghost use Rattle.std.specs.Prelude.{◌≡◌, ◌+◌, ◌<◌};
+ghost use Rattle.base.specs.Outcome.{place};
 ghost use Rattle.sheet.specs.Layout.{is_long, Sized, RecordAt};
 ghost use Rattle.sheet.specs.Sheet.{sheet_of};
 ghost use Rattle.sheet.specs.Parsed.{terms_of, parsed};
 
-use base::numbers;
+use base::{Activity, numbers};
 
 mod fields;
 mod record;
@@ -71,7 +72,7 @@ pub struct Sheet {
     pub options: [Terms; 3],
 }
 
-// Single fields of a sheet of a right length, for a caller that needs no more: T, the discount factor, the terms of option `k`, and the
+// Single fields of a sheet of a right length, for a caller that needs no more: T, the discount factor, the terms of an activity, and the
 // age and the amount of its overhaul `j`.
 pub fn horizon_of(s: &[u8]) -> u64
     requires { Sized s.now }
@@ -94,36 +95,37 @@ fn is_long(s: &[u8]) -> bool
     s.len() == LONG_SHEET_LENGTH
 }
 
-// Where record `k` starts.
-fn start_of(s: &[u8], k: usize) -> usize
-    requires { Sized s.now × (k < 3) }
-    ensures { RecordAt s.now k result }
+// Where the record of an activity starts.
+fn start_of(s: &[u8], activity: Activity) -> usize
+    requires { Sized s.now }
+    ensures { RecordAt s.now (place activity) result }
 {
+    let k = activity.place();
     if is_long(s) {
         return RECORDS + LONG_RECORD_LENGTH * k;
     }
     RECORDS + RECORD_LENGTH * k
 }
 
-pub fn terms_of(s: &[u8], k: usize) -> Terms
-    requires { Sized s.now × (k < 3) }
-    ensures { result ≡ terms_of ((sheet_of s.now).option k) }
+pub fn terms_of(s: &[u8], activity: Activity) -> Terms
+    requires { Sized s.now }
+    ensures { result ≡ terms_of ((sheet_of s.now).option (place activity)) }
 {
-    record::terms_at(s, start_of(s, k), is_long(s))
+    record::terms_at(s, start_of(s, activity), is_long(s))
 }
 
-pub fn age_of(s: &[u8], k: usize, j: usize) -> u64
-    requires { Sized s.now × (k < 3) × (j < 8) }
-    ensures { result ≡ (((sheet_of s.now).option k).overhaul j).age }
+pub fn age_of(s: &[u8], activity: Activity, j: usize) -> u64
+    requires { Sized s.now × (j < 8) }
+    ensures { result ≡ (((sheet_of s.now).option (place activity)).overhaul j).age }
 {
-    numbers::u16_at(s, start_of(s, k) + (41 + 6 * j))
+    numbers::u16_at(s, start_of(s, activity) + (41 + 6 * j))
 }
 
-pub fn amount_of(s: &[u8], k: usize, j: usize) -> u64
-    requires { Sized s.now × (k < 3) × (j < 8) }
-    ensures { result ≡ (((sheet_of s.now).option k).overhaul j).amount }
+pub fn amount_of(s: &[u8], activity: Activity, j: usize) -> u64
+    requires { Sized s.now × (j < 8) }
+    ensures { result ≡ (((sheet_of s.now).option (place activity)).overhaul j).amount }
 {
-    numbers::u32_at(s, start_of(s, k) + (43 + 6 * j))
+    numbers::u32_at(s, start_of(s, activity) + (43 + 6 * j))
 }
 
 // All fields of a sheet of a right length, whatever they hold.
@@ -131,9 +133,9 @@ pub fn parse(s: &[u8]) -> Sheet
     requires { Sized s.now }
     ensures { result ≡ parsed (sheet_of s.now) }
 {
-    let maintain = terms_of(s, 0);
-    let renovate = terms_of(s, 1);
-    let replace = terms_of(s, 2);
+    let maintain = terms_of(s, Activity::Maintain);
+    let renovate = terms_of(s, Activity::Renovate);
+    let replace = terms_of(s, Activity::Replace);
     Sheet {
         horizon: horizon_of(s),
         discount: discount_of(s),
