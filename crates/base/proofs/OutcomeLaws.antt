@@ -1,20 +1,22 @@
 -- Laws of `Outcome.antt`. In order:
 --     place_lt, place_at      an activity is one of three options, and its place is where it stands among them
 --     number_pos, number_lt, option_lt      a refusal's number is 1 to 16, its option at most 3
---     ok_number, check_number      a call is accepted exactly when its number is 0
---     ok_total      and then its total is what it answers
+--     accepted_number, refused_number, passed_number      a call is accepted exactly when its number is 0
+--     passed_on      a refusal is passed on as it is
+--     accepts, ok_total, priced_exactly, near_total      what is said of an answer's number and total, said of the outcome
 -- Assumes nothing.
 use Prim.Native.Nat.{ℕ, zero, suc, ◌<◌, ◌≤◌}
 use mathlib.Core.Path.{◌≡◌, refl, sym, ap}
 use mathlib.Core.Bool.{false≢true}
+use mathlib.Core.Logic.Iff
 use mathlib.Core.Logic.{◌↔◌}
 use native.Mathlib.Omega.{arith}
-use Rattle.std.specs.Prelude.{Result, Ok, Err, IsOk, [], ◌∷◌, slice_index_or}
+use Rattle.std.specs.Prelude.{Result, Ok, Err, IsOk, IfOk, [], ◌∷◌, slice_index_or}
 use Rattle.base.specs.declared.Activity.{Activity}
 use Rattle.base.specs.declared.Activity.TheVariants.{Maintain, Renovate, Replace}
 use Rattle.base.specs.declared.Refusal.{Refusal}
 use Rattle.base.specs.declared.Refusal.TheVariants.{Length, Mark, Horizon, Rate, Lives, Amount, Inflation, Ageing, Overhauls, Words, NoChain, PlanLength, NotOffered, NotAChain, GeneralInflation, ListLength}
-use Rattle.base.specs.Outcome.{place, number_of, option_of, answer_of, check_answer}
+use Rattle.base.specs.Outcome.{place, number_of, option_of, answer_by, answer_of, check_answer}
 
 pub place_lt : (a : Activity) → place a < 3
 place_lt Maintain = omega arith
@@ -45,14 +47,41 @@ number_pos NotAChain = omega arith
 number_pos GeneralInflation = omega arith
 number_pos ListLength = omega arith
 
-pub check_number : (r : Result Unit Refusal) → ((check_answer r).number ≡ 0) ↔ IsOk r
-check_number (Ok d) = (λ e. refl, λ o. refl)
-check_number (Err x) = (λ e. let p = number_pos x in absurd (omega arith), λ o. absurd (false≢true o))
+-- of an outcome whose total is read in any way
+module _ {T : Type 0} (total : T → ℕ) where
+  pub accepted_number : (r : Result T Refusal) → ((answer_by total r).number ≡ 0) ↔ IsOk r
+  accepted_number (Ok t) = (λ e. refl, λ o. refl)
+  accepted_number (Err x) = (λ e. let p = number_pos x in absurd (omega arith), λ o. absurd (false≢true o))
 
-pub ok_number : (r : Result ℕ Refusal) → ((answer_of r).number ≡ 0) ↔ IsOk r
-ok_number (Ok t) = (λ e. refl, λ o. refl)
-ok_number (Err x) = (λ e. let p = number_pos x in absurd (omega arith), λ o. absurd (false≢true o))
+  pub refused_number : (r : Result T Refusal) (e : Refusal) → r ≡ Err e → (answer_by total r).number ≡ 0 → ⊥
+  refused_number r e was n =
+      let p = number_pos e in
+      let m : number_of e ≡ 0 = rw was at n in
+      omega arith
+
+  pub passed_number : (r : Result T Refusal) (t : T) → r ≡ Ok t → (answer_by total r).number ≡ 0
+  passed_number r t was = rw was refl
+
+  -- a refusal is passed on by `?` as it is
+  pub passed_on :
+      {U : Type 0} (other : U → ℕ) (r : Result T Refusal) (h : Result U Refusal) (e y : Refusal) → h ≡ Err e → r ≡ Err y → y ≡ e →
+      answer_by total r ≡ answer_by other h
+  passed_on other r h e y was is same = rw (is, same, was) refl
+
+-- what is said of an answer's number and total, said of the outcome
+module _ (r : Result ℕ Refusal) where
+  pub accepts : {P : Type 0} → ((answer_of r).number ≡ 0) ↔ P → IsOk r ↔ P
+  accepts h = Iff.trans (Iff.symm (accepted_number (λ (t : ℕ). t) r)) h
 
 pub ok_total : (r : Result ℕ Refusal) (t : ℕ) → (((answer_of r).number ≡ 0) × ((answer_of r).total ≡ t)) ↔ (r ≡ Ok t)
 ok_total (Ok u) t = (λ e. ap Ok e.1, λ e. (refl, cc))
 ok_total (Err x) t = (λ e. let p = number_pos x in absurd (omega arith), λ e. absurd (cc))
+
+pub priced_exactly :
+    (r : Result ℕ Refusal) {P : ℕ → Type 0} → ((total : ℕ) → (((answer_of r).number ≡ 0) × ((answer_of r).total ≡ total)) ↔ P total) →
+    (total : ℕ) → (r ≡ Ok total) ↔ P total
+priced_exactly r h total = Iff.trans (Iff.symm (ok_total r total)) (h total)
+
+pub near_total : (r : Result ℕ Refusal) (N : ℕ → Type 0) → ((answer_of r).number ≡ 0 → N (answer_of r).total) → IfOk r N
+near_total (Ok t) N h = h refl
+near_total (Err x) N h = tt

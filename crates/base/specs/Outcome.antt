@@ -1,5 +1,5 @@
 -- What a call's outcome answers: the number and the option that the refusal table has for each refusal. Definitions only.
-use Rattle.std.specs.Prelude.{ℕ, Result, Ok, Err}
+use Rattle.std.specs.Prelude.{ℕ, ◌≡◌, ◌<◌, Result, Ok, Err, MatchResult}
 use Rattle.base.specs.Answer.{accepted, refused}
 use Rattle.base.specs.declared.Answer.{Answer}
 use Rattle.base.specs.declared.Activity.{Activity}
@@ -41,12 +41,18 @@ option_of (Ageing activity) = place activity
 option_of (Overhauls activity) = place activity
 option_of other = 3
 
--- a call that answers a total
-abbrev pub answer_of : Result ℕ Refusal → Answer
-answer_of (Ok total) = accepted total
-answer_of (Err refusal) = refused (number_of refusal) (option_of refusal)
+-- an outcome's answer: accepted with the total of what is answered, or refused
+abbrev pub answer_by : {T : Type 0} → (T → ℕ) → Result T Refusal → Answer
+answer_by total (Ok value) = accepted (total value)
+answer_by total (Err refusal) = refused (number_of refusal) (option_of refusal)
 
--- a check, whose total is 0
+-- a call that answers a total, and a check, whose total is 0
+abbrev pub answer_of : Result ℕ Refusal → Answer
+answer_of outcome = answer_by (λ total. total) outcome
+
 abbrev pub check_answer : Result Unit Refusal → Answer
-check_answer (Ok done) = accepted 0
-check_answer (Err refusal) = refused (number_of refusal) (option_of refusal)
+check_answer outcome = answer_by (λ done. 0) outcome
+
+-- what names an option: its number, or the refusal of an arc
+abbrev pub Names : ℕ → Result Activity Refusal → Type 0
+Names option outcome = MatchResult outcome (λ activity. place activity ≡ option) (λ refusal. (refusal ≡ NotOffered) × (2 < option))

@@ -5,7 +5,7 @@
 
 ghost use Rattle.std.specs.Prelude.{◌≡◌};
 ghost use Rattle.base.specs.Answer.{accepted, refused};
-ghost use Rattle.base.specs.Outcome.{place, number_of, option_of, answer_of, check_answer};
+ghost use Rattle.base.specs.Outcome.{place, number_of, option_of, answer_of, check_answer, Names};
 
 pub mod numbers;
 pub mod order;
@@ -55,6 +55,22 @@ impl Activity {
         ensures { result ≡ place self }
     {
         self as usize
+    }
+}
+
+// The activity with an option's number: an arc of another option is not offered.
+impl TryFrom<u64> for Activity {
+    type Error = Refusal;
+
+    ghost try_from_gives = { Names };
+
+    fn try_from(option: u64) -> Result<Activity, Refusal> {
+        match option {
+            0 => Ok(Activity::Maintain),
+            1 => Ok(Activity::Renovate),
+            2 => Ok(Activity::Replace),
+            _ => Err(Refusal::NotOffered),
+        }
     }
 }
 

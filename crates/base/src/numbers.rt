@@ -55,13 +55,9 @@ pub fn put(list: &mut [u8], start: usize, count: usize, number: u64)
     requires { start + count ≤ length list.old }
     ensures { list.new ≡ sets list.old start (bytes_of count number) }
 {
-    let mut at = start;
-    let mut left = count;
     let mut rest = number;
-    while 0 < left {
+    for at in start..start + count {
         list[at] = (rest % 256) as u8;
-        rest = rest / 256;
-        at += 1;
-        left -= 1;
+        rest /= 256;
     }
 }

@@ -3,10 +3,11 @@
 #![tactic(auto)]
 
 ghost use Rattle.std.specs.Prelude.{◌≡◌};
+ghost use Rattle.base.specs.Outcome.{answer_of};
 ghost use Rattle.budget.specs.Budget.{last_in_cents, roomy, budget_answer, units_after, cents_after};
 ghost use Rattle.budget.specs.Promises.{PromisedBudget};
 
-use base::{Answer, order};
+use base::Refusal;
 
 mod filling;
 
@@ -14,7 +15,7 @@ mod filling;
 fn last_in_cents(horizon: u64) -> u64
     ensures { result ≡ last_in_cents horizon }
 {
-    order::smaller(15, horizon)
+    horizon.min(15)
 }
 
 // Whether both lists are long enough, by their numbers of words.
@@ -32,23 +33,20 @@ pub fn budget(
     general: u64,
     units: &mut [u64],
     cents: &mut [u64],
-) -> Answer
-    ensures answer { result ≡ budget_answer sheet.now plan.now general units.old cents.old }
+) -> Result<u64, Refusal>
+    ensures answer { answer_of result ≡ budget_answer sheet.now plan.now general units.old cents.old }
     ensures units { units.new ≡ units_after sheet.now plan.now general units.old cents.old }
     ensures cents { cents.new ≡ cents_after sheet.now plan.now general units.old cents.old }
-    ensures promised { PromisedBudget sheet.now plan.now general units.old cents.old result units.new cents.new }
+    ensures promised { PromisedBudget sheet.now plan.now general units.old cents.old (answer_of result) units.new cents.new }
 {
-    let priced = pricing::price(sheet, plan);
-    if priced.number != 0 {
-        return priced;
-    }
+    let total = pricing::price(sheet, plan)?;
     if 50_000 < general {
-        return base::refused(15, 3);
+        return Err(Refusal::GeneralInflation);
     }
     let parsed = sheet::parse(sheet);
     if !roomy(parsed.horizon, units.len(), cents.len()) {
-        return base::refused(16, 3);
+        return Err(Refusal::ListLength);
     }
     filling::fill(units, cents, parsed, general, plan);
-    priced
+    Ok(total)
 }

@@ -12,28 +12,22 @@ use Rattle.std.specs.Prelude.{Result, Ok, Err, IsOk}
 use Rattle.base.specs.Answer.{accepted, refused, answered, ◌unless◌else◌}
 use Rattle.base.specs.declared.Answer.{Answer}
 use Rattle.base.specs.declared.Refusal.{Refusal}
-use Rattle.base.specs.Outcome.{number_of, check_answer}
+use Rattle.base.specs.Outcome.{check_answer}
 use Rattle.base.proofs.AnswerLaws.{answered-iff, or_else_stop}
-use Rattle.base.proofs.OutcomeLaws.{number_pos, check_number}
+use Rattle.base.proofs.OutcomeLaws.{accepted_number, refused_number, passed_number, passed_on}
 use Rattle.sheet.specs.Sheet.{OptionRecord, sheet_of}
 use Rattle.checking.specs.Refusals.{overhaul_ok, header_number, fields_number, overhaul_answer, first_below, option_answer, checked}
 use Rattle.checking.specs.Passes.{Passes}
 use Rattle.checking.proofs.FirstLaws.{first_suc, first_found}
 use Rattle.checking.proofs.PassesLaws.{header-iff, checked-iff}
 
+-- a check answers no total
+abbrev none : Unit {0} → ℕ
+none d = 0
+
 -- an outcome that answers as `checked` does accepts exactly the sheets that pass
 pub check_accepts : (s : List ℕ) (r : Result Unit Refusal) → check_answer r ≡ checked s → IsOk r ↔ Passes s
-check_accepts s r t = Iff.trans (Iff.symm (check_number r)) (rw t (checked-iff s))
-
--- a refusal has a number, and is passed on as it is
-refusal_number : (h : Result Unit Refusal) (e : Refusal) → h ≡ Err e → (check_answer h).number ≡ 0 → ⊥
-refusal_number h e was n =
-    let p = number_pos e in
-    let m : number_of e ≡ 0 = rw was at n in
-    omega arith
-
-passed_on : (r h : Result Unit Refusal) (e y : Refusal) → h ≡ Err e → r ≡ Err y → y ≡ e → check_answer r ≡ check_answer h
-passed_on r h e y was is same = ap check_answer (is ∙ ap Err same ∙ sym was)
+check_accepts s r t = Iff.trans (Iff.symm (accepted_number none r)) (rw t (checked-iff s))
 
 -- the discount factor of a sheet whose header passes
 pub discount_small : (s : List ℕ) (discount : ℕ) → discount ≡ 1_000_000 + (sheet_of s).rate → header_number s ≡ 0 → discount ≤ 1_200_000
@@ -58,7 +52,7 @@ module _ (s : List ℕ) where
   -- the header's outcome: a refusal is the sheet's
   pub header_passes : (h : Result Unit Refusal) (d : Unit {0}) → h ≡ Ok d → check_answer h ≡ answered (header_number s) 3 → header_number s ≡ 0
   header_passes h d was found =
-      let z : (check_answer h).number ≡ 0 = rw was refl in
+      let z : (check_answer h).number ≡ 0 = passed_number none h d was in
       (answered-iff (header_number s) 3).0 (ap (λ (a : Answer). a.number) (sym found) ∙ z)
 
   pub header_stops :
@@ -66,8 +60,8 @@ module _ (s : List ℕ) where
       check_answer r ≡ checked s
   unfolding checked
   header_stops r h e y was is same found =
-      let z : (answered (header_number s) 3).number ≡ 0 → ⊥ = λ n. refusal_number h e was (rw found n) in
-      passed_on r h e y was is same ∙ found ∙ sym (or_else_stop (answered (header_number s) 3) _ z)
+      let z : (answered (header_number s) 3).number ≡ 0 → ⊥ = λ n. refused_number none h e was (rw found n) in
+      passed_on none none r h e y was is same ∙ found ∙ sym (or_else_stop (answered (header_number s) 3) _ z)
 
   -- the ways out behind it
   module _ (passed : header_number s ≡ 0) where
@@ -88,8 +82,8 @@ module _ (s : List ℕ) where
       unfolding option_answer
       fields_stop r h e y was is same found =
           let a = answered (fields_number (sheet_of s).rate ((sheet_of s).option k)) k in
-          let z : a.number ≡ 0 → ⊥ = λ n. refusal_number h e was (rw found n) in
-          passed_on r h e y was is same ∙ found ∙ option_stops a z (or_else_stop a _ z)
+          let z : a.number ≡ 0 → ⊥ = λ n. refused_number none h e was (rw found n) in
+          passed_on none none r h e y was is same ∙ found ∙ option_stops a z (or_else_stop a _ z)
 
       pub overhaul-refused :
           (j : ℕ) → fields_number (sheet_of s).rate ((sheet_of s).option k) ≡ 0 → j < 8 →
@@ -105,5 +99,5 @@ module _ (s : List ℕ) where
 pub fields_pass :
     (r k : ℕ) (o : OptionRecord) (h : Result Unit Refusal) (d : Unit {0}) → h ≡ Ok d → check_answer h ≡ answered (fields_number r o) k → fields_number r o ≡ 0
 fields_pass r k o h d was found =
-    let z : (check_answer h).number ≡ 0 = rw was refl in
+    let z : (check_answer h).number ≡ 0 = passed_number none h d was in
     (answered-iff (fields_number r o) k).0 (ap (λ (a : Answer). a.number) (sym found) ∙ z)

@@ -6,9 +6,13 @@ use mathlib.Core.List.{List}
 use mathlib.Core.Bool.{Bool, true, false}
 use mathlib.Core.Logic.{◌↔◌}
 use native.Mathlib.Omega.{arith}
+use Rattle.std.specs.Prelude.{Result, IsOk, IfOk}
 use Rattle.base.specs.Lists.{Every}
 use Rattle.base.specs.Answer.{accepted, refused, total_bound, Packs}
 use Rattle.base.specs.declared.Answer.{Answer}
+use Rattle.base.specs.declared.Refusal.{Refusal}
+use Rattle.base.specs.Outcome.{answer_of}
+use Rattle.base.proofs.OutcomeLaws.{accepts, near_total}
 use Rattle.base.proofs.CallLaws.{call-refused, call_stopped, call_passed, call-iff, call-accepted, call_number_le, call_packs}
 use Rattle.sheet.specs.Sheet.{sheet_of}
 use Rattle.checking.specs.Refusals.{checked}
@@ -86,13 +90,14 @@ module _ (s : List ℕ) (option start end : ℕ) where
       let h = costed-iff.0 e in
       rw (costed-accepted e) (arc_error (arc_of (sheet_of s) option start end) (arc_of_lem h.0 h.1))
 
-  -- what was answered, when it is an acceptance, and how near the cost then is
+  -- an outcome that answers so, when it is an acceptance, and how near the cost then is
   pub cost_answers :
-      (a : Answer) → a ≡ costed s option start end
-      → (a ≡ costed s option start end)
-      × (((a.number ≡ 0) ↔ (Passes s × Offered (sheet_of s) option start end))
-      × (a.number ≡ 0 → WithinAllowance (arc_of (sheet_of s) option start end) a.total))
-  cost_answers a e = (e, (rw e costed-iff, rw e costed_near))
+      (r : Result ℕ Refusal) → answer_of r ≡ costed s option start end
+      → (answer_of r ≡ costed s option start end)
+      × ((IsOk r ↔ (Passes s × Offered (sheet_of s) option start end))
+      × IfOk r (WithinAllowance (arc_of (sheet_of s) option start end)))
+  cost_answers r e =
+      (e, (accepts r (rw e costed-iff), near_total r (WithinAllowance (arc_of (sheet_of s) option start end)) (rw e costed_near)))
 
   pub costed_number_le : (costed s option start end).number ≤ 13
   unfolding costed costing

@@ -1,12 +1,13 @@
 -- Laws of `offered`: the tests and the facts agree (`placed-iff`, `offered-iff`); of an arc that is well placed the length decides
--- (`offered_in`); and the test as the code reads it (`offered_read`). Assumes nothing.
-use Prim.Native.Nat.{ℕ, ◌-◌, ◌≤◌, min}
+-- (`offered_in`); and the test as the code reads it (`offered_read`, `offered_on`,
+-- `offered_above`). Assumes nothing.
+use Prim.Native.Nat.{ℕ, ◌-◌, ◌<◌, ◌≤◌, min}
 use mathlib.Core.Path.{◌≡◌}
-use mathlib.Core.Bool.{true, ◌&&◌}
+use mathlib.Core.Bool.{true, false, ◌&&◌}
 use mathlib.Core.Logic.{◌↔◌, ◌⊎◌, inl, inr, ⊎_elim}
 use native.Mathlib.Omega.{arith}
 use lib.Dec.{leb}
-use borrow.Author.Tests.{leb-true, leb-false}
+use borrow.Author.Tests.{leb-true, leb-false, lt-leb}
 use Rattle.base.proofs.TestLaws.{by_test, leb-iff, eqb-iff, both_iff, either_iff}
 use Rattle.sheet.specs.Sheet.{PlanningSheet}
 use Rattle.sheet.specs.Parsed.{terms_of}
@@ -52,6 +53,17 @@ module _ (p : PlanningSheet) (option start end : ℕ) where
       → placed T option start end && length_offered t.shortest t.longest option (end - start) ≡ offered p option start end
   unfolding terms_of
   offered_read k e horizon terms = rw (horizon, terms) (offered_known k e)
+
+  -- of the option's own terms, and an option above 2 is never offered
+  pub offered_on :
+      {T : ℕ} {t : Terms} → T ≡ p.horizon → t ≡ terms_of (p.option option)
+      → placed T option start end && length_offered t.shortest t.longest option (end - start) ≡ offered p option start end
+  unfolding offered terms_of
+  offered_on horizon terms = rw (horizon, terms)
+
+  pub offered_above : 2 < option → offered p option start end ≡ false
+  unfolding offered
+  offered_above high = rw (lt-leb option 2 high)
 
   from_zero : (option ≡ 0 → start ≡ 0) → (1 ≤ option) ⊎ (start ≡ 0)
   from_zero h =

@@ -4,7 +4,8 @@
 
 #![tactic(auto)]
 
-ghost use Rattle.std.specs.Prelude.{◌≡◌, ◌↔◌, ◌-◌, ◌*◌, ◌≤◌};
+ghost use Rattle.std.specs.Prelude.{◌≡◌, ◌↔◌, ◌-◌, ◌*◌, ◌≤◌, IsOk, IfOk};
+ghost use Rattle.base.specs.Outcome.{answer_of};
 ghost use Rattle.sheet.specs.Sheet.{PlanningSheet, sheet_of};
 ghost use Rattle.sheet.specs.Parsed.{parsed};
 ghost use Rattle.checking.specs.Passes.{Passes};
@@ -15,7 +16,7 @@ ghost use Rattle.costing.specs.Costing.{costed};
 ghost use Rattle.costing.specs.Error.{WithinAllowance};
 ghost use Rattle.costing.specs.Fit.{yearly};
 
-use base::{Answer, order};
+use base::{Activity, Refusal};
 use division::Divisor;
 use sheet::{RENOVATE, REPLACE, Sheet, Terms};
 use steps::Units;
@@ -113,20 +114,17 @@ pub fn arc_cost(sheet: Sheet, option: u64, start: u64, end: u64) -> Units
 }
 
 // The cost of an arc: of an option kept from year start to year end. Its option's record is read once.
-pub fn cost(sheet: &[u8], option: u64, start: u64, end: u64) -> Answer
-    ensures answer { result ≡ costed sheet.now option start end }
-    ensures accepted { (result.number ≡ 0) ↔ (Passes sheet.now × Offered (sheet_of sheet.now) option start end) }
-    ensures near { result.number ≡ 0 → WithinAllowance (arc_of (sheet_of sheet.now) option start end) result.total }
+pub fn cost(sheet: &[u8], option: u64, start: u64, end: u64) -> Result<u64, Refusal>
+    ensures answer { answer_of result ≡ costed sheet.now option start end }
+    ensures accepted { IsOk result ↔ (Passes sheet.now × Offered (sheet_of sheet.now) option start end) }
+    ensures near { IfOk result (WithinAllowance (arc_of (sheet_of sheet.now) option start end)) }
 {
-    let checked = checking::check(sheet);
-    if checked.number != 0 {
-        return checked;
-    }
-    let known = order::smaller(option, REPLACE);
-    let terms = sheet::terms_of(sheet, known as usize);
+    checking::check(sheet)?;
+    let activity = Activity::try_from(option)?;
+    let terms = sheet::terms_of(sheet, activity);
     let horizon = sheet::horizon_of(sheet);
     if !offer::offered_by(horizon, terms.shortest, terms.longest, option, start, end) {
-        return base::refused(13, 3);
+        return Err(Refusal::NotOffered);
     }
     let discount = sheet::discount_of(sheet);
     let kept = kept_on(terms, discount, since_of(option, start), start);
@@ -136,5 +134,5 @@ pub fn cost(sheet: &[u8], option: u64, start: u64, end: u64) -> Answer
         end - start,
         horizon,
     );
-    base::accepted(units.0)
+    Ok(units.0)
 }

@@ -5,7 +5,6 @@ ghost use Rattle.sheet.specs.Sheet.{PlanningSheet};
 ghost use Rattle.sheet.specs.Parsed.{parsed};
 ghost use Rattle.costing.specs.Offered.{placed, length_offered, offered};
 
-use base::order;
 use sheet::{REPLACE, Sheet};
 
 // Whether an option is known, the end is not above T nor before the start, and maintain starts in year 0.
@@ -44,7 +43,7 @@ pub fn offered_by(
 pub fn offered(sheet: Sheet, option: u64, start: u64, end: u64) -> bool
     ensures { (p : PlanningSheet) → sheet ≡ parsed p → result ≡ offered p option start end }
 {
-    let known = order::smaller(option, REPLACE);
+    let known = option.min(REPLACE);
     let terms = sheet.options[known as usize];
     offered_by(
         sheet.horizon,

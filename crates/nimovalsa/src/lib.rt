@@ -43,7 +43,7 @@ pub extern "C" fn nimovalsa_check(sheet: &[u8]) -> u64
     ensures answer { Returns result (checked sheet.now) }
     ensures accepted { ((answer_in result).number ≡ 0) ↔ Passes sheet.now }
 {
-    pack(checking::check(sheet))
+    pack(Answer::from(checking::check(sheet)))
 }
 
 // Costing an arc: its cost in units, and the number and the option of the refusal table.
@@ -53,7 +53,7 @@ pub extern "C" fn nimovalsa_cost(sheet: &[u8], option: u64, start: u64, end: u64
     ensures accepted { ((answer_in result).number ≡ 0) ↔ (Passes sheet.now × Offered (sheet_of sheet.now) option start end) }
     ensures near { (answer_in result).number ≡ 0 → WithinAllowance (arc_of (sheet_of sheet.now) option start end) (answer_in result).total }
 {
-    pack(costing::cost(sheet, option, start, end))
+    pack(Answer::from(costing::cost(sheet, option, start, end)))
 }
 
 // Pricing a plan: the rounded total of its chain in units, and the number and the option of the refusal table.
@@ -63,7 +63,7 @@ pub extern "C" fn nimovalsa_price(sheet: &[u8], plan: &[u8]) -> u64
     ensures accepted { (total : ℕ) → (((answer_in result).number ≡ 0) × ((answer_in result).total ≡ total)) ↔ PricedAt sheet.now plan.now total }
     ensures near { (answer_in result).number ≡ 0 → TotalNear (sheet_of sheet.now) (decode plan.now) (answer_in result).total }
 {
-    pack(pricing::price(sheet, plan))
+    pack(Answer::from(pricing::price(sheet, plan)))
 }
 
 // Planning: the rounded total of the chosen chain in units, and the number and the option of the refusal table. The plan of the chain is
@@ -75,7 +75,7 @@ pub extern "C" fn nimovalsa_plan(sheet: &[u8], plan: &mut [u8], words: &mut [u64
     ensures words { words.new ≡ words_after sheet.now plan.old words.old }
     ensures promised { Promised sheet.now plan.old words.old (answer_in result) plan.new words.new }
 {
-    pack(planner::plan(sheet, plan, words))
+    pack(Answer::from(planner::plan(sheet, plan, words)))
 }
 
 // The budget by year: the priced total of the plan in units, and the number and the option of the refusal table. What the chain pays in each
@@ -93,7 +93,7 @@ pub extern "C" fn nimovalsa_budget(
     ensures cents { cents.new ≡ cents_after sheet.now plan.now general units.old cents.old }
     ensures promised { PromisedBudget sheet.now plan.now general units.old cents.old (answer_in result) units.new cents.new }
 {
-    pack(budget::budget(sheet, plan, general, units, cents))
+    pack(Answer::from(budget::budget(sheet, plan, general, units, cents)))
 }
 
 // The yearbook: the present-worth factor for a rate and a year, 10^12 standing for 1, and the number and the option of the refusal table.
@@ -102,5 +102,5 @@ pub extern "C" fn nimovalsa_factor(rate: u64, year: u64) -> u64
     ensures answer { Returns result (factor_answer rate year) }
     ensures promised { PromisedFactor rate year (answer_in result) }
 {
-    pack(yearbook::factor(rate, year))
+    pack(Answer::from(yearbook::factor(rate, year)))
 }

@@ -8,8 +8,12 @@ use mathlib.Core.Bool.{Bool, true, false}
 use mathlib.Core.Logic.{◌↔◌}
 use native.Mathlib.Omega.{arith}
 use lib.ListN.{length, get_or}
+use Rattle.std.specs.Prelude.{Result, Ok, IfOk}
 use Rattle.base.specs.Answer.{accepted, refused, Packs}
 use Rattle.base.specs.declared.Answer.{Answer}
+use Rattle.base.specs.declared.Refusal.{Refusal}
+use Rattle.base.specs.Outcome.{answer_of}
+use Rattle.base.proofs.OutcomeLaws.{priced_exactly, near_total}
 use Rattle.base.proofs.CallLaws.{call-refused, call_stopped, call_passed, call-iff, call-accepted, call_option, call_total, call_number_le, call_packs}
 use Rattle.sheet.specs.Sheet.{sheet_of}
 use Rattle.checking.specs.Refusals.{checked}
@@ -97,14 +101,15 @@ module _ (s plan : List ℕ) where
       let h = accepted-iff.0 e in
       rw (priced-accepted e) (total_near (sheet_of s) (fit s h.0) (decode plan) h.1.1)
 
-  -- what was answered, when it is an acceptance with a total, and how near that total then is
+  -- an outcome that answers so, when it is an acceptance with a total, and how near that total then is
   pub price_answers :
       ((k : ℕ) → k < length plan → get_or plan k 0 < 256)
-      → (a : Answer) → a ≡ priced s plan
-      → (a ≡ priced s plan)
-      × (((total : ℕ) → ((a.number ≡ 0) × (a.total ≡ total)) ↔ PricedAt s plan total)
-      × (a.number ≡ 0 → TotalNear (sheet_of s) (decode plan) a.total))
-  price_answers byte a e = (e, (rw e (priced-iff byte), rw e priced_near))
+      → (r : Result ℕ Refusal) → answer_of r ≡ priced s plan
+      → (answer_of r ≡ priced s plan)
+      × (((total : ℕ) → (r ≡ Ok total) ↔ PricedAt s plan total)
+      × IfOk r (TotalNear (sheet_of s) (decode plan)))
+  price_answers byte r e =
+      (e, (priced_exactly r (rw e (priced-iff byte)), near_total r (TotalNear (sheet_of s) (decode plan)) (rw e priced_near)))
 
   -- a sheet that passes gets option 3, and with every refusal the total is 0
   pub priced_option : Passes s → (priced s plan).option ≡ 3

@@ -3,31 +3,29 @@
 
 #![tactic(auto)]
 
-ghost use Rattle.std.specs.Prelude.{◌≡◌, ◌↔◌, ℕ};
+ghost use Rattle.std.specs.Prelude.{◌≡◌, ◌↔◌, ℕ, Ok, IfOk};
+ghost use Rattle.base.specs.Outcome.{answer_of};
 ghost use Rattle.sheet.specs.Sheet.{sheet_of};
 ghost use Rattle.chain.specs.Error.{TotalNear};
 ghost use Rattle.chain.specs.PlanBytes.{decode};
 ghost use Rattle.pricing.specs.Pricing.{priced, PricedAt};
 
-use base::Answer;
+use base::Refusal;
 
 mod fitting;
 mod total;
 
 // The rounded total of the chain in plan bytes, whoever made them.
-pub fn price(sheet: &[u8], plan: &[u8]) -> Answer
-    ensures answer { result ≡ priced sheet.now plan.now }
-    ensures accepted { (total : ℕ) → ((result.number ≡ 0) × (result.total ≡ total)) ↔ PricedAt sheet.now plan.now total }
-    ensures near { result.number ≡ 0 → TotalNear (sheet_of sheet.now) (decode plan.now) result.total }
+pub fn price(sheet: &[u8], plan: &[u8]) -> Result<u64, Refusal>
+    ensures answer { answer_of result ≡ priced sheet.now plan.now }
+    ensures accepted { (total : ℕ) → (result ≡ Ok total) ↔ PricedAt sheet.now plan.now total }
+    ensures near { IfOk result (TotalNear (sheet_of sheet.now) (decode plan.now)) }
 {
-    let checked = checking::check(sheet);
-    if checked.number != 0 {
-        return checked;
-    }
+    checking::check(sheet)?;
     let parsed = sheet::parse(sheet);
     if !fitting::plan_fits(parsed, plan) {
-        return base::refused(14, 3);
+        return Err(Refusal::NotAChain);
     }
     let units = total::plan_total(parsed, plan);
-    base::accepted(units.0)
+    Ok(units.0)
 }

@@ -5,6 +5,7 @@
 ghost use Rattle.std.specs.Prelude.{◌≡◌, ◌≤◌, length, take};
 ghost use Rattle.lines.specs.Texts.{text_for, AtFront};
 ghost use Rattle.printing.specs.Showing.{text_after, text_length, Shows};
+
 // Bytes of text that are enough for every sheet.
 pub const ROOM: usize = 6069;
 
@@ -20,10 +21,12 @@ pub fn show(sheet: &[u8], text: &mut [u8]) -> usize
     }
     let mut plan = [0u8; 619];
     let mut words = [0u64; tails::WORDS];
-    let a = planner::plan(sheet, &mut plan, &mut words);
-    if a.number == 0 {
-        lines::plan_lines(&plan, text)
-    } else {
-        lines::text::put_pair(text, 0, b"refused", a.number as u64, a.option as u64)
+    match planner::plan(sheet, &mut plan, &mut words) {
+        Ok(_) => lines::plan_lines(&plan, text),
+        Err(refusal) => {
+            let number = u64::from(refusal.number());
+            let option = u64::from(refusal.option());
+            lines::text::put_pair(text, 0, b"refused", number, option)
+        }
     }
 }

@@ -4,11 +4,12 @@
 #![tactic(auto)]
 
 ghost use Rattle.std.specs.Prelude.{◌≡◌, ◌<◌, ◌≤◌};
+ghost use Rattle.base.specs.Outcome.{answer_of};
 ghost use Rattle.factors.specs.PresentWorth.{largest_rate, present_worth};
 ghost use Rattle.yearbook.specs.Yearbook.{last_year, usual_rates, usual_rate, factor_answer};
 ghost use Rattle.yearbook.specs.Promises.{PromisedFactor};
 
-use base::Answer;
+use base::Refusal;
 use table::FACTORS;
 
 mod table;
@@ -34,15 +35,15 @@ fn worth(rate: u64, year: u64) -> u64
 }
 
 // The library's own present-worth factor for a rate in millionths a year and a year.
-pub fn factor(rate: u64, year: u64) -> Answer
-    ensures answer { result ≡ factor_answer rate year }
-    ensures promised { PromisedFactor rate year result }
+pub fn factor(rate: u64, year: u64) -> Result<u64, Refusal>
+    ensures answer { answer_of result ≡ factor_answer rate year }
+    ensures promised { PromisedFactor rate year (answer_of result) }
 {
     if 200_000 < rate {
-        return base::refused(4, 3);
+        return Err(Refusal::Rate);
     }
     if 300 < year {
-        return base::refused(13, 3);
+        return Err(Refusal::NotOffered);
     }
-    base::accepted(worth(rate, year))
+    Ok(worth(rate, year))
 }

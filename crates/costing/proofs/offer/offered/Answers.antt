@@ -7,6 +7,6 @@ use Rattle.costing.proofs.offer.offered.Goals as goal
 
 pub returns : goal.returns
 returns c p read =
-    let known = c.smaller-known in
+    let known = c.min-known in
     c.offered_by.ensures
     ∙ offered_read p _ _ _ known.result known.ensures (horizon_read _ p read) (terms_read _ p read known.result _ (omega (arith, known.ensures)))
