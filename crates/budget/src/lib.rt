@@ -11,6 +11,9 @@ use base::Refusal;
 
 mod filling;
 
+// General inflation is at most 5 per cent a year.
+const LARGEST_INFLATION: u64 = 50_000;
+
 // The last year in cents: 15, or T if sooner.
 fn last_in_cents(horizon: u64) -> u64
     ensures { result ≡ last_in_cents horizon }
@@ -40,7 +43,7 @@ pub fn budget(
     ensures promised { PromisedBudget sheet.now plan.now general units.old cents.old (answer_of result) units.new cents.new }
 {
     let total = pricing::price(sheet, plan)?;
-    if 50_000 < general {
+    if LARGEST_INFLATION < general {
         return Err(Refusal::GeneralInflation);
     }
     let parsed = sheet::parse(sheet);

@@ -14,6 +14,11 @@ use table::FACTORS;
 
 mod table;
 
+// The largest real discount rate, 20 per cent a year, and the last year of the table.
+const LARGEST_RATE: u64 = 200_000;
+
+const LAST_YEAR: u64 = 300;
+
 // What is looked up is what is stepped, at every row of every rate.
 fn looked_up(place: usize, year: usize) -> u64
     requires { (place < usual_rates) × (year ≤ last_year) }
@@ -39,10 +44,10 @@ pub fn factor(rate: u64, year: u64) -> Result<u64, Refusal>
     ensures answer { answer_of result ≡ factor_answer rate year }
     ensures promised { PromisedFactor rate year (answer_of result) }
 {
-    if 200_000 < rate {
+    if LARGEST_RATE < rate {
         return Err(Refusal::Rate);
     }
-    if 300 < year {
+    if LAST_YEAR < year {
         return Err(Refusal::NotOffered);
     }
     Ok(worth(rate, year))
