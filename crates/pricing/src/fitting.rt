@@ -29,16 +29,12 @@ fn reaches(sheet: Sheet, start: u64, plan: &[u8], count: usize) -> bool
     ensures { (p : PlanningSheet) → sheet ≡ parsed p → result ≡ reaches p start (ends_at plan.now 19 count) }
 {
     let mut year = start;
-    let mut at: usize = 19;
-    let mut left = count;
-    while 0 < left {
-        let end = numbers::u16_at(plan, at);
+    for k in 0..count {
+        let end = numbers::u16_at(plan, 19 + 2 * k);
         if !costing::offer::offered(sheet, REPLACE, year, end) {
             return false;
         }
         year = end;
-        at += 2;
-        left -= 1;
     }
     year == sheet.horizon
 }

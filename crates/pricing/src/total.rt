@@ -21,15 +21,11 @@ fn replaced(sheet: Sheet, start: u64, plan: &[u8], count: usize) -> Units
     ensures room { result.0 + start * yearly ≤ sheet.horizon * yearly }
 {
     let mut year = start;
-    let mut at: usize = 19;
-    let mut left = count;
     let mut sum = 0;
-    while 0 < left {
-        let end = numbers::u16_at(plan, at);
+    for k in 0..count {
+        let end = numbers::u16_at(plan, 19 + 2 * k);
         sum += costing::arc_cost(sheet, REPLACE, year, end).0;
         year = end;
-        at += 2;
-        left -= 1;
     }
     Units(sum)
 }
