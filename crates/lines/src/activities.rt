@@ -11,6 +11,7 @@ use crate::text::{put_line, put_pair};
 use base::numbers;
 
 // The total field of a plan.
+#[tactic(auto, unfolding(base::specs::Numbers::u32_at, base::specs::Numbers::number_at))]
 fn total_of(plan: &[u8]) -> u64
     requires { 19 ≤ length plan.now }
     ensures { result ≡ total_field plan.now }
@@ -25,14 +26,10 @@ fn put_replacements(text: &mut [u8], start: usize, plan: &[u8], first: u64, coun
 {
     let mut at = start;
     let mut year = first;
-    let mut from: usize = 19;
-    let mut left = count;
-    while 0 < left {
-        let end = numbers::u16_at(plan, from);
+    for k in 0..count {
+        let end = numbers::u16_at(plan, 19 + 2 * k);
         at = put_pair(text, at, b"replace", year, end);
         year = end;
-        from += 2;
-        left -= 1;
     }
     at
 }

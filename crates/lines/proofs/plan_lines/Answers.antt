@@ -21,9 +21,6 @@ returns-then-text-count c =
     text_short _ _ (omega (arith, c.u16_at-count.ensures.0)) in
     record { text = held.0; length = held.1.0; front = held.1.1 }
 
-pub put_plan-requires : goal.put_plan-requires
-put_plan-requires c = (c.u16_at-count.ensures.0, omega arith, omega arith)
-
 pub returns : goal.returns
 returns c =
     let held =
