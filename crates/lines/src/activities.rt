@@ -9,6 +9,7 @@ ghost use Rattle.lines.specs.Puts.{Puts};
 
 use crate::text::{put_line, put_pair};
 use base::numbers;
+use chain::reading;
 
 // The total field of a plan.
 #[tactic(auto, unfolding(base::specs::Numbers::u32_at, base::specs::Numbers::number_at))]
@@ -27,7 +28,7 @@ fn put_replacements(text: &mut [u8], start: usize, plan: &[u8], first: u64, coun
     let mut at = start;
     let mut year = first;
     for k in 0..count {
-        let end = numbers::u16_at(plan, 19 + 2 * k);
+        let end = reading::end_at(plan, k);
         at = put_pair(text, at, b"replace", year, end);
         year = end;
     }
@@ -39,8 +40,8 @@ pub fn put_plan(text: &mut [u8], plan: &[u8], count: usize) -> usize
     requires { (count ≡ count_field plan.now) × (plan_size count ≤ length plan.now) × (text_for count ≤ length text.old) }
     ensures { Puts text.old 0 (lines_of plan.now) text.new result }
 {
-    let i = numbers::u16_at(plan, 13);
-    let j = numbers::u16_at(plan, 15);
+    let i = reading::i_of(plan);
+    let j = reading::j_of(plan);
     let maintain = put_line(text, 0, b"total", total_of(plan));
     let renovate = put_pair(text, maintain, b"maintain", 0, i);
     let replace = put_pair(text, renovate, b"renovate", i, j);

@@ -9,8 +9,8 @@ use Rattle.pricing.proofs.fitting.plan_fits.Goals as goal
 pub returns-then-not-shaped : goal.returns-then-not-shaped
 returns-then-not-shaped c = λ p read. sym (fitting_unshaped p _ (sym c.shaped.ensures ∙ c.if-not-shaped.true))
 
-pub u16_at-i-requires : goal.u16_at-i-requires
-u16_at-i-requires c =
+pub i_of-i-requires : goal.i_of-i-requires
+i_of-i-requires c =
     let shape = (shaped-iff c.args.plan.now).0 (sym c.shaped.ensures ∙ c.if-not-shaped.false) in
     omega (arith, shape.enough)
 
@@ -19,10 +19,10 @@ returns-then-not-offered c =
     λ p read.
     let ok = sym c.shaped.ensures ∙ c.if-not-shaped.false in
     let out = sym (c.offered.ensures p read) ∙ c.if-not-offered.true in
-    sym (fitting_unmaintained p _ ok c.u16_at-i.ensures.0 out)
+    sym (fitting_unmaintained p _ ok c.i_of-i.ensures.0 out)
 
-pub u16_at-j-requires : goal.u16_at-j-requires
-u16_at-j-requires c =
+pub j_of-j-requires : goal.j_of-j-requires
+j_of-j-requires c =
     let shape = (shaped-iff c.args.plan.now).0 (sym c.shaped.ensures ∙ c.if-not-shaped.false) in
     omega (arith, shape.enough)
 
@@ -32,17 +32,17 @@ returns-then-not-offered-2 c =
     let ok = sym c.shaped.ensures ∙ c.if-not-shaped.false in
     let maintained = sym (c.offered.ensures p read) ∙ c.if-not-offered.false in
     let out = sym (c.offered-2.ensures p read) ∙ c.if-not-offered-2.true in
-    sym (fitting_unrenovated p _ ok c.u16_at-i.ensures.0 maintained c.u16_at-j.ensures.0 out)
+    sym (fitting_unrenovated p _ ok c.i_of-i.ensures.0 maintained c.j_of-j.ensures.0 out)
 
-pub u16_at-count-requires : goal.u16_at-count-requires
-u16_at-count-requires c =
+pub count_of-count-requires : goal.count_of-count-requires
+count_of-count-requires c =
     let shape = (shaped-iff c.args.plan.now).0 (sym c.shaped.ensures ∙ c.if-not-shaped.false) in
     omega (arith, shape.enough)
 
 pub reaches-requires : goal.reaches-requires
 reaches-requires c =
     let shape = (shaped-iff c.args.plan.now).0 (sym c.shaped.ensures ∙ c.if-not-shaped.false) in
-    omega (arith, shape.long, c.u16_at-count.ensures.0)
+    omega (arith, shape.long, c.count_of-count.ensures.0)
 
 pub returns : goal.returns
 returns c =
@@ -51,4 +51,4 @@ returns c =
     let maintained = sym (c.offered.ensures p read) ∙ c.if-not-offered.false in
     let renovated = sym (c.offered-2.ensures p read) ∙ c.if-not-offered-2.false in
     c.reaches.ensures p read
-    ∙ sym (fitting-replaced p _ ok c.u16_at-i.ensures.0 maintained c.u16_at-j.ensures.0 renovated c.u16_at-count.ensures.0)
+    ∙ sym (fitting-replaced p _ ok c.i_of-i.ensures.0 maintained c.j_of-j.ensures.0 renovated c.count_of-count.ensures.0)

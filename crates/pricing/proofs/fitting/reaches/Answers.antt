@@ -9,14 +9,14 @@ use Rattle.pricing.proofs.fitting.reaches.Goals as goal
 pub returns-then-not-offered : goal.returns-then-not-offered
 returns-then-not-offered c =
     λ p read.
-    let next = ends_more c.args.plan.now c.args.count c.loop-k.k (omega arith) c.u16_at-end.ensures.0 in
+    let next = ends_more c.args.plan.now c.args.count c.loop-k.k (omega arith) c.end_at-end.ensures.0 in
     let out = sym (c.offered.ensures p read) ∙ c.if-not-offered.true in
     sym (reaches_stop next p c.loop-k.year out) ∙ c.loop-k.invariant p read
 
 pub loop-k-preserved : goal.loop-k-preserved
 loop-k-preserved c =
     λ p read.
-    let next = ends_more c.args.plan.now c.args.count c.loop-k.k (omega arith) c.u16_at-end.ensures.0 in
+    let next = ends_more c.args.plan.now c.args.count c.loop-k.k (omega arith) c.end_at-end.ensures.0 in
     let found = sym (c.offered.ensures p read) ∙ c.if-not-offered.false in
     sym (reaches_next next p c.loop-k.year found) ∙ c.loop-k.invariant p read
 

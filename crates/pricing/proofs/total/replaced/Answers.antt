@@ -6,14 +6,14 @@ use Rattle.pricing.proofs.total.replaced.Goals as goal
 
 pub arc_cost-sum-requires : goal.arc_cost-sum-requires
 arc_cost-sum-requires c =
-    let next = ends_more c.args.plan.now c.args.count c.loop-k.k (omega arith) c.u16_at-end.ensures.0 in
+    let next = ends_more c.args.plan.now c.args.count c.loop-k.k (omega arith) c.end_at-end.ensures.0 in
     let years = climbs_more next _ c.loop-k.year c.loop-k.invariant.climbs in
     (c.requires.fit.0, omega arith, omega (arith, years.0), years.1.early)
 
 pub loop-k-preserved : goal.loop-k-preserved
 loop-k-preserved c =
     let loop = c.loop-k in
-    let next = ends_more c.args.plan.now c.args.count loop.k (omega arith) c.u16_at-end.ensures.0 in
+    let next = ends_more c.args.plan.now c.args.count loop.k (omega arith) c.end_at-end.ensures.0 in
     let years = climbs_more next _ loop.year loop.invariant.climbs in
     let up = years.0 in
     let arc = c.arc_cost-sum.ensures in record {
