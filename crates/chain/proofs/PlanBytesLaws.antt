@@ -14,7 +14,7 @@ use Rattle.base.specs.Numbers.{u16_at, bytes_of, bytes_at}
 use Rattle.base.proofs.TestLaws.{leb-iff, eqb-iff, both_iff}
 use Rattle.base.proofs.NumberLaws.{bytes_of-length, bytes_at-append, bytes_at_two, bytes_at-rest, number_bytes_at, u16_at-bytes_at, bytes_of_number, bytes_of-u16_at, get_or-below}
 use Rattle.chain.specs.Chain.{Chain}
-use Rattle.chain.specs.PlanBytes.{end_bytes, header, plan_size, encode, total_field, count_field, ends_at, decode, shaped, Shaped, Narrow}
+use Rattle.chain.specs.PlanBytes.{end_bytes, header, plan_size, encode, total_field, count_field, end_field, ends_at, decode, shaped, Shaped, Narrow}
 
 pub shaped-iff : (plan : List ℕ) → (shaped plan ≡ true) ↔ Shaped plan
 unfolding shaped
@@ -131,7 +131,7 @@ abbrev pub ends_left : List ℕ → (count k : ℕ) → List ℕ
 ends_left plan count k = ends_at plan (19 + 2 * k) (count - k)
 
 module _ (plan : List ℕ) (count k : ℕ) where
-  pub ends_more : k < count → {end : ℕ} → end ≡ u16_at plan (19 + 2 * k) → ends_left plan count k ≡ end ∷ ends_left plan count (k + 1)
+  pub ends_more : k < count → {end : ℕ} → end ≡ end_field plan k → ends_left plan count k ≡ end ∷ ends_left plan count (k + 1)
   ends_more h {end} read =
       let at : 19 + 2 * (k + 1) ≡ 19 + 2 * k + 2 = omega arith in
       let rest : count - (k + 1) ≡ count - k - 1 = omega arith in

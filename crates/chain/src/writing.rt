@@ -12,9 +12,7 @@ fn put_header(plan: &mut [u8], total: u64, i: u64, j: u64, count: u64)
     requires { 19 ≤ length plan.old }
     ensures { plan.new ≡ sets plan.old 0 (header total i j count) }
 {
-    plan[0] = b'R';
-    plan[1] = b'C';
-    plan[2] = b'P';
+    plan[..3].copy_from_slice(b"RCP");
     numbers::put(plan, 3, 2, 1);
     numbers::put(plan, 5, 8, total);
     numbers::put(plan, 13, 2, i);

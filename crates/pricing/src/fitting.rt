@@ -11,7 +11,7 @@ use chain::reading;
 use sheet::{MAINTAIN, RENOVATE, REPLACE, Sheet};
 
 // Whether the bytes have a plan's length, mark and version.
-#[tactic(auto, unfolding(chain::specs::PlanBytes::shaped))]
+#[tactic(auto, using(crate::proofs::FittingLaws::mark_read), unfolding(chain::specs::PlanBytes::shaped))]
 fn shaped(plan: &[u8]) -> bool
     ensures { result ≡ shaped plan.now }
 {
@@ -20,9 +20,7 @@ fn shaped(plan: &[u8]) -> bool
     }
     let m = reading::count_of(plan);
     let version = numbers::u16_at(plan, 3);
-    (19 + 2 * m == plan.len())
-        & ((plan[0] == b'R') & (plan[1] == b'C') & (plan[2] == b'P'))
-        & (version == 1)
+    19 + 2 * m == plan.len() && plan.starts_with(b"RCP") && version == 1
 }
 
 // Whether replacements lead from a year to the horizon: that many, whose ends stand from byte 19 on.
