@@ -1,7 +1,8 @@
 -- Laws of plan bytes: the test of a plan's shape and the facts agree (`shaped-iff`); how many bytes there are (`encode-length`); what was encoded
 -- is read back (`total_field-encode`, `count_field-encode`, `encode-shaped`, `decode-encode`); bytes of a plan's shape are the encoding of what is
--- read from them (`encode-decode`); one end more and none, as a loop reads them (`ends_next`, `ends_none`). Assumes nothing.
-use Prim.Native.Nat.{ℕ, zero, suc, ◌+◌, ◌-◌, ◌*◌, ◌<◌}
+-- read from them (`encode-decode`); one end more and none, at any place (`ends_next`, `ends_none`) and as a loop over the ends of a plan reads
+-- them (`ends_more`, `ends_done`). Assumes nothing.
+use Prim.Native.Nat.{ℕ, zero, suc, ◌+◌, ◌-◌, ◌*◌, ◌<◌, ◌≤◌}
 use mathlib.Core.Path.{◌≡◌, refl, sym, ap, ap₂, ◌∙◌}
 use mathlib.Core.Bool.{true}
 use mathlib.Core.Logic.{◌↔◌}
@@ -13,7 +14,7 @@ use Rattle.base.specs.Numbers.{u16_at, bytes_of, bytes_at}
 use Rattle.base.proofs.TestLaws.{leb-iff, eqb-iff, both_iff}
 use Rattle.base.proofs.NumberLaws.{bytes_of-length, bytes_at-append, bytes_at_two, bytes_at-rest, number_bytes_at, u16_at-bytes_at, bytes_of_number, bytes_of-u16_at, get_or-below}
 use Rattle.chain.specs.Chain.{Chain}
-use Rattle.chain.specs.PlanBytes.{end_bytes, header, plan_size, encode, total_field, count_field, ends_at, decode, shaped, Shaped, Narrow}
+use Rattle.chain.specs.PlanBytes.{end_bytes, header, plan_size, encode, total_field, count_field, end_field, ends_at, decode, shaped, Shaped, Narrow}
 
 pub shaped-iff : (plan : List ℕ) → (shaped plan ≡ true) ↔ Shaped plan
 unfolding shaped
@@ -115,7 +116,7 @@ encode-decode plan h b =
     rw (ends_at-length plan 19 m, header-part plan byte h, end_bytes-part plan byte 19 m, ← bytes_at-append plan 0 19 (2 * m), ← h.long)
     (bytes_at-rest [] plan 0 refl)
 
--- one end more, as a loop reads them
+-- one end more, and none
 pub ends_next : (plan : List ℕ) (at n : ℕ) → 0 < n → ends_at plan at n ≡ u16_at plan at ∷ ends_at plan (at + 2) (n - 1)
 unfolding ends_at
 ends_next plan at zero h = absurd (omega arith)
@@ -124,3 +125,17 @@ ends_next plan at (suc n) h = let e : suc n - 1 ≡ n = omega arith in rw e
 pub ends_none : (plan : List ℕ) (at : ℕ) → ends_at plan at 0 ≡ []
 unfolding ends_at
 ends_none plan at = refl
+
+-- of that many ends of a plan, those from place k on: the end at k and the others, and none
+abbrev pub ends_left : List ℕ → (count k : ℕ) → List ℕ
+ends_left plan count k = ends_at plan (19 + 2 * k) (count - k)
+
+module _ (plan : List ℕ) (count k : ℕ) where
+  pub ends_more : k < count → {end : ℕ} → end ≡ end_field plan k → ends_left plan count k ≡ end ∷ ends_left plan count (k + 1)
+  ends_more h {end} read =
+      let at : 19 + 2 * (k + 1) ≡ 19 + 2 * k + 2 = omega arith in
+      let rest : count - (k + 1) ≡ count - k - 1 = omega arith in
+      rw (at, rest, read) (ends_next plan (19 + 2 * k) (count - k) (omega arith))
+
+  pub ends_done : count ≤ k → ends_left plan count k ≡ []
+  ends_done h = let none : count - k ≡ 0 = omega arith in rw none (ends_none plan (19 + 2 * k))

@@ -1,12 +1,12 @@
 -- Laws of a plan that is stored: its header and then its end years (`sets-encode`), of which one more and none are stored, as a loop does it
 -- (`sets_end`, `sets_no_end`). Assumes nothing.
-use Prim.Native.Nat.{ℕ, suc, ◌+◌, ◌*◌, ◌≤◌, ◌<◌}
+use Prim.Native.Nat.{ℕ, suc, ◌+◌, ◌*◌, ◌<◌}
 use mathlib.Core.Path.{◌≡◌}
 use mathlib.Core.List.{List}
 use native.Mathlib.Numerals.{add-one}
 use native.Mathlib.Omega.{arith}
-use lib.ListN.{length, get_or}
-use lib.Seq.{sets, slice, slice-cons, slice_empty}
+use lib.ListN.{length, get_or, drop}
+use lib.Seq.{sets, drop-cons, drop-length}
 use Rattle.base.specs.Numbers.{bytes_of}
 use Rattle.base.proofs.StoreLaws.{sets-append}
 use Rattle.base.proofs.NumberLaws.{bytes_of-length}
@@ -21,18 +21,18 @@ unfolding encode header bytes_of
 sets-encode plan total c = sets-append plan 0 (header total c.i c.j (length c.ends)) (end_bytes c.ends)
 
 -- the end years that are left to store, those from k on: one more, and none
-module _ (l ends : List ℕ) (count k : ℕ) where
+module _ (l ends : List ℕ) (k : ℕ) where
   pub sets_end :
-      k < count → count ≤ length ends
-      → sets l (19 + 2 * k) (end_bytes (slice k count ends))
-      ≡ sets (sets l (19 + 2 * k) (bytes_of 2 (get_or ends k 0))) (19 + 2 * (k + 1)) (end_bytes (slice (k + 1) count ends))
+      k < length ends
+      → sets l (19 + 2 * k) (end_bytes (drop k ends))
+      ≡ sets (sets l (19 + 2 * k) (bytes_of 2 (get_or ends k 0))) (19 + 2 * (k + 1)) (end_bytes (drop (k + 1) ends))
   unfolding end_bytes
-  sets_end h long =
+  sets_end h =
       let at = 19 + 2 * k in
       let e : 19 + 2 * (k + 1) ≡ at + 2 = omega arith in
-      rw (slice-cons k count ends 0, e, add-one k)
-      (rw bytes_of-length at (sets-append l at (bytes_of 2 (get_or ends k 0)) (end_bytes (slice (suc k) count ends))))
+      rw (drop-cons ends k 0 h, e, add-one k)
+      (rw bytes_of-length at (sets-append l at (bytes_of 2 (get_or ends k 0)) (end_bytes (drop (suc k) ends))))
 
-  pub sets_no_end : k ≡ count → sets l (19 + 2 * k) (end_bytes (slice k count ends)) ≡ l
+  pub sets_no_end : k ≡ length ends → sets l (19 + 2 * k) (end_bytes (drop k ends)) ≡ l
   unfolding end_bytes
-  sets_no_end e = rw (e, slice_empty count ends)
+  sets_no_end e = rw (e, drop-length ends)

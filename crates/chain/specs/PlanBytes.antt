@@ -29,9 +29,19 @@ encode total c = header total c.i c.j (length c.ends) ++ end_bytes c.ends
 abbrev pub total_field : List ℕ → ℕ
 total_field plan = number_at plan 5 8
 
--- m, the number of replacements
+-- i, j and m, the number of replacements
+abbrev pub i_field : List ℕ → ℕ
+i_field plan = u16_at plan 13
+
+abbrev pub j_field : List ℕ → ℕ
+j_field plan = u16_at plan 15
+
 abbrev pub count_field : List ℕ → ℕ
 count_field plan = u16_at plan 17
+
+-- the k-th end year, of which the first is at 0
+abbrev pub end_field : List ℕ → (k : ℕ) → ℕ
+end_field plan k = u16_at plan (19 + 2 * k)
 
 -- that many end years from a place on
 unfoldable pub ends_at : List ℕ → (at count : ℕ) → List ℕ

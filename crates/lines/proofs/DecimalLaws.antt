@@ -1,13 +1,16 @@
 -- Laws of numbers in base ten: one digit, and one more than the tenth has (`places-below`, `places_tenth`); n digits hold a number below 10^n
--- (`decimal-length`); the last digit stands behind the others (`digits_next`). Assumes nothing.
+-- (`decimal-length`); digits are put from the last one on (`digit_put`, `digit_none`). Assumes
+-- nothing.
 use Prim.Native.Nat.{ℕ, zero, suc, ◌+◌, ◌-◌, ◌/◌, ◌%◌, ◌^◌, ◌≤◌, ◌<◌}
-use mathlib.Core.Path.{◌≡◌, refl, ap, subst, ◌∙◌}
-use mathlib.Core.List.{List, ◌∷◌, ◌++◌, append_assoc}
+use mathlib.Core.Path.{◌≡◌, refl, subst, ◌∙◌}
+use mathlib.Core.List.{List, [], ◌∷◌}
 use native.Mathlib.Nat.{div-lt_iff_lt-mul, pow-suc, zero-lt-suc}
 use native.Mathlib.Omega.{arith}
 use lib.Dec.{ltb}
-use lib.ListN.{length, length-append}
+use lib.ListN.{length, set, length-append}
+use lib.Seq.{sets, set_comm}
 use borrow.Author.Tests.{ltb-true, ltb-false, lt-ltb, le-ltb}
+use Rattle.base.proofs.StoreLaws.{sets-append}
 use Rattle.base.proofs.TestLaws.{by_test}
 use Rattle.lines.specs.Lines.{places, digits, decimal}
 
@@ -55,14 +58,20 @@ decimal-places x = digits-length (places 19 x) x
 pub decimal-length : (n x : ℕ) → x < 10 ^ suc n → length (decimal x) ≤ suc n
 decimal-length n x h = rw (decimal-places x) (places-le 19 n x h)
 
--- the digits that are left to put, before those that stand
-pub digits_next :
-    (n x : ℕ) (behind : List ℕ) → 0 < n → digits n x ++ behind ≡ digits (n - 1) (x / 10) ++ (48 + x % 10) ∷ behind
-unfolding digits
-digits_next n x behind h =
-    let e : n ≡ suc (n - 1) = omega arith in
-    ap (λ (k : ℕ). digits k x ++ behind) e ∙ append_assoc (digits (n - 1) (x / 10)) _ behind
+-- a store behind a run of stores can be made first
+sets_before : (vs l : List ℕ) (at i v : ℕ) → at + length vs ≤ i → sets (set l i v) at vs ≡ set (sets l at vs) i v
+sets_before [] l at i v h = refl
+sets_before (x ∷ vs) l at i v h = rw (set_comm l i at v x (λ q. omega arith)) (sets_before vs (set l at x) (suc at) i v (omega arith))
 
-pub digits_none : (n x : ℕ) → n ≡ 0 → (behind : List ℕ) → behind ≡ digits n x ++ behind
-unfolding digits
-digits_none n x e behind = rw e refl
+-- digits are put from the last one on: one, and those that are left; and none
+module _ (text : List ℕ) (at x : ℕ) where
+  pub digit_put : (n : ℕ) → sets (set text (at + n) (48 + x % 10)) at (digits n (x / 10)) ≡ sets text at (digits (suc n) x)
+  unfolding digits
+  digit_put n =
+      let long = digits-length n (x / 10) in
+      rw (sets-append text at (digits n (x / 10)) ((48 + x % 10) ∷ []), long)
+      (sets_before (digits n (x / 10)) text at (at + n) (48 + x % 10) (omega arith))
+
+  pub digit_none : (n : ℕ) → n ≡ 0 → sets text at (digits n x) ≡ text
+  unfolding digits
+  digit_none n none = rw none

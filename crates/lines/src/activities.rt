@@ -9,8 +9,10 @@ ghost use Rattle.lines.specs.Puts.{Puts};
 
 use crate::text::{put_line, put_pair};
 use base::numbers;
+use chain::reading;
 
 // The total field of a plan.
+#[tactic(auto, unfolding(base::specs::Numbers::u32_at, base::specs::Numbers::number_at))]
 fn total_of(plan: &[u8]) -> u64
     requires { 19 ≤ length plan.now }
     ensures { result ≡ total_field plan.now }
@@ -25,14 +27,10 @@ fn put_replacements(text: &mut [u8], start: usize, plan: &[u8], first: u64, coun
 {
     let mut at = start;
     let mut year = first;
-    let mut from: usize = 19;
-    let mut left = count;
-    while 0 < left {
-        let end = numbers::u16_at(plan, from);
+    for k in 0..count {
+        let end = reading::end_at(plan, k);
         at = put_pair(text, at, b"replace", year, end);
         year = end;
-        from += 2;
-        left -= 1;
     }
     at
 }
@@ -42,8 +40,8 @@ pub fn put_plan(text: &mut [u8], plan: &[u8], count: usize) -> usize
     requires { (count ≡ count_field plan.now) × (plan_size count ≤ length plan.now) × (text_for count ≤ length text.old) }
     ensures { Puts text.old 0 (lines_of plan.now) text.new result }
 {
-    let i = numbers::u16_at(plan, 13);
-    let j = numbers::u16_at(plan, 15);
+    let i = reading::i_of(plan);
+    let j = reading::j_of(plan);
     let maintain = put_line(text, 0, b"total", total_of(plan));
     let renovate = put_pair(text, maintain, b"maintain", 0, i);
     let replace = put_pair(text, renovate, b"renovate", i, j);

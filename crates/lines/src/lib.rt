@@ -6,7 +6,7 @@
 ghost use Rattle.std.specs.Prelude.{◌≡◌};
 ghost use Rattle.lines.specs.Texts.{lines_after, lines_length, AtFront};
 
-use base::numbers;
+use chain::reading;
 
 mod activities;
 pub mod text;
@@ -21,7 +21,7 @@ pub fn plan_lines(plan: &[u8], text: &mut [u8]) -> usize
     if plan.len() < 19 {
         return 0;
     }
-    let count = numbers::u16_at(plan, 17) as usize;
+    let count = reading::count_of(plan);
     if plan.len() < 19 + 2 * count {
         return 0;
     }

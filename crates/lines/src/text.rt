@@ -9,12 +9,9 @@ fn put_word(text: &mut [u8], at: usize, word: &[u8]) -> usize
     requires { at + length word.now ≤ length text.old }
     ensures { Puts text.old at word.now text.new result }
 {
-    let mut k: usize = 0;
-    while k < word.len() {
-        text[at + k] = word[k];
-        k += 1;
-    }
-    at + k
+    let end = at + word.len();
+    text[at..end].copy_from_slice(word);
+    end
 }
 
 // How many digits a number has.
@@ -24,23 +21,22 @@ fn places(number: u64) -> usize
     let mut count: usize = 1;
     let mut rest = number;
     while 10 <= rest {
-        rest = rest / 10;
+        rest /= 10;
         count += 1;
     }
     count
 }
 
 // Puts that many digits of a number, the last one first.
+#[tactic(auto, using(crate::proofs::DecimalLaws::digit_put, crate::proofs::DecimalLaws::digit_none))]
 fn put_digits(text: &mut [u8], at: usize, count: usize, number: u64)
     requires { at + count ≤ length text.old }
     ensures { text.new ≡ sets text.old at (digits count number) }
 {
-    let mut left = count;
     let mut rest = number;
-    while 0 < left {
-        left -= 1;
-        text[at + left] = (48 + rest % 10) as u8;
-        rest = rest / 10;
+    for k in (0..count).rev() {
+        text[at + k] = (48 + rest % 10) as u8;
+        rest /= 10;
     }
 }
 

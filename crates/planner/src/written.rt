@@ -30,6 +30,6 @@ pub fn write_chosen(sheet: Sheet, plan: &mut [u8], words: &[u64], firsts: &[u64]
     if plan.len() < 19 + 2 * count {
         return base::refused(12, 3);
     }
-    chain::writing::write_plan(plan, total, chosen.i, j, &ends, count);
+    chain::writing::write_plan(plan, total, chosen.i, j, &ends[..count]);
     base::accepted(total)
 }

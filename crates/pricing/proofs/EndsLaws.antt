@@ -1,9 +1,9 @@
--- One end more: what the loops over a plan's ends need, where `end` is the next end that stands in the plan: whether replacements lead to T
--- (`reaches_stop`, `reaches_next`, `reaches_none`), their years (`climbs_next`) and what they cost (`spent_next`, `spent_none`). And the years
+-- One end more, and none: what the loops over a plan's ends need: whether replacements lead to T (`reaches_stop`, `reaches_next`,
+-- `reaches_none`), their years (`climbs_more`, `climbs_next`) and what they cost (`spent_next`, `spent_none`). And the years
 -- and the total of the chain in a plan (`ordered_read`, `total_read`). Assumes nothing.
 use Prim.Native.Nat.{ℕ, ◌+◌, ◌-◌, ◌<◌, ◌≤◌}
 use mathlib.Core.Path.{◌≡◌, subst}
-use mathlib.Core.List.{List, ◌∷◌}
+use mathlib.Core.List.{List, [], ◌∷◌}
 use mathlib.Core.Bool.{true, false}
 use lib.Dec.{eqb}
 use Rattle.base.specs.Lists.{sum_of}
@@ -14,43 +14,42 @@ use Rattle.costing.specs.Offered.{offered}
 use Rattle.chain.specs.Chain.{replacements, activities, arcs_of, spent, rounded_total}
 use Rattle.chain.specs.PlanBytes.{count_field, ends_at, decode}
 use Rattle.chain.specs.Ordered.{Climbs, Ordered}
-use Rattle.chain.proofs.PlanBytesLaws.{ends_next, ends_none}
+use Rattle.chain.proofs.PlanBytesLaws.{ends_next}
 use Rattle.chain.proofs.FeasibleLaws.{climbs_rest}
 use Rattle.pricing.specs.Fitting.{reaches}
 
-module _ (plan : List ℕ) (at left : ℕ) (more : 0 < left) {end : ℕ} (read : end ≡ u16_at plan at) where
-  -- the ends from here on
-  ends_here : ends_at plan at left ≡ end ∷ ends_at plan (at + 2) (left - 1)
-  ends_here = rw read (ends_next plan at left more)
-
-  pub reaches_stop : (p : PlanningSheet) (y : ℕ) → offered p replace y end ≡ false → reaches p y (ends_at plan at left) ≡ false
+-- the next end, and the others
+module _ {ends others : List ℕ} {end : ℕ} (next : ends ≡ end ∷ others) where
+  pub reaches_stop : (p : PlanningSheet) (y : ℕ) → offered p replace y end ≡ false → reaches p y ends ≡ false
   unfolding reaches
-  reaches_stop p y out = rw (ends_here, out)
+  reaches_stop p y out = rw (next, out)
 
-  pub reaches_next :
-      (p : PlanningSheet) (y : ℕ) → offered p replace y end ≡ true
-      → reaches p y (ends_at plan at left) ≡ reaches p end (ends_at plan (at + 2) (left - 1))
+  pub reaches_next : (p : PlanningSheet) (y : ℕ) → offered p replace y end ≡ true → reaches p y ends ≡ reaches p end others
   unfolding reaches
-  reaches_next p y found = rw (ends_here, found)
+  reaches_next p y found = rw (next, found)
 
-  pub climbs_next : (T y : ℕ) → Climbs T y (ends_at plan at left) → (y < end) × Climbs T end (ends_at plan (at + 2) (left - 1))
-  climbs_next T y h = let k = subst (Climbs T y) ends_here h in (k.rising.0, climbs_rest k)
+  pub climbs_more : (T y : ℕ) → Climbs T y ends → (y < end) × Climbs T end others
+  climbs_more T y h = let k = subst (Climbs T y) next h in (k.rising.0, climbs_rest k)
 
-  pub spent_next :
-      (p : PlanningSheet) (y : ℕ)
-      → spent p (replacements y (ends_at plan at left))
-      ≡ cost (arc_of p replace y end) + spent p (replacements end (ends_at plan (at + 2) (left - 1)))
+  pub spent_next : (p : PlanningSheet) (y : ℕ) → spent p (replacements y ends) ≡ cost (arc_of p replace y end) + spent p (replacements end others)
   unfolding sum_of arcs_of replacements
-  spent_next p y = rw ends_here
+  spent_next p y = rw next
 
-module _ (plan : List ℕ) (p : PlanningSheet) (y at : ℕ) where
-  pub reaches_none : {left : ℕ} → left ≡ 0 → reaches p y (ends_at plan at left) ≡ eqb y p.horizon
+-- the years behind the next end, where the ends are read from any place on
+pub climbs_next :
+    (plan : List ℕ) (at left : ℕ) → 0 < left → {end : ℕ} → end ≡ u16_at plan at → (T y : ℕ)
+    → Climbs T y (ends_at plan at left) → (y < end) × Climbs T end (ends_at plan (at + 2) (left - 1))
+climbs_next plan at left more read = climbs_more (rw read (ends_next plan at left more))
+
+-- no end
+module _ (p : PlanningSheet) (y : ℕ) {ends : List ℕ} (none : ends ≡ []) where
+  pub reaches_none : reaches p y ends ≡ eqb y p.horizon
   unfolding reaches
-  reaches_none none = rw (none, ends_none plan at)
+  reaches_none = rw none
 
-  pub spent_none : {left : ℕ} → left ≡ 0 → spent p (replacements y (ends_at plan at left)) ≡ 0
+  pub spent_none : spent p (replacements y ends) ≡ 0
   unfolding sum_of arcs_of replacements
-  spent_none none = rw (none, ends_none plan at)
+  spent_none = rw none
 
 -- where i, j and m are the numbers read from the plan
 module _ (plan : List ℕ) {i j m : ℕ} (first : i ≡ u16_at plan 13) (second : j ≡ u16_at plan 15) (third : m ≡ count_field plan) where

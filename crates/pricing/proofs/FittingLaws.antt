@@ -1,11 +1,16 @@
--- Laws of `fitting`. Its tests and the facts agree (`reaches-iff`, `feasible-iff`, `fitting-iff`). Part by part: bytes without a plan's shape,
+-- Laws of `fitting`. The mark is tested as std tests what a list begins with (`mark_read`). Its tests and the facts agree (`reaches-iff`, `feasible-iff`, `fitting-iff`). Part by part: bytes without a plan's shape,
 -- maintaining or renovating that is not offered, and else what the replacements decide, where i, j and m are the numbers read from the plan
 -- (`fitting-replaced`). Assumes nothing.
-use Prim.Native.Nat.{ℕ}
+use Prim.Native.Nat.{ℕ, ◌≤◌}
 use mathlib.Core.Path.{◌≡◌}
 use mathlib.Core.List.{List, [], ◌∷◌}
-use mathlib.Core.Bool.{true, false}
+use mathlib.Core.Bool.{true, false, ◌&&◌}
 use mathlib.Core.Logic.{◌↔◌}
+use native.Mathlib.Omega.{arith}
+use lib.Dec.{eqb}
+use lib.ListN.{length, get_or}
+use Rattle.std.specs.List.{starts_with}
+use Rattle.std.proofs.lemmas.Bool.Decides.{nat_tests}
 use Rattle.base.specs.Numbers.{u16_at}
 use Rattle.base.proofs.TestLaws.{eqb-iff, both_iff}
 use Rattle.sheet.specs.Sheet.{PlanningSheet, maintain, renovate, replace}
@@ -16,6 +21,18 @@ use Rattle.chain.specs.PlanBytes.{count_field, ends_at, decode, shaped, Shaped}
 use Rattle.chain.proofs.PlanBytesLaws.{shaped-iff}
 use Rattle.chain.proofs.FeasibleLaws.{feasible-parts}
 use Rattle.pricing.specs.Fitting.{reaches, feasible, fitting}
+
+-- the mark at the front, as the code tests it
+marked : (a b c : ℕ) → eqb 82 a && (eqb 67 b && (eqb 80 c && true)) ≡ eqb a 82 && eqb b 67 && eqb c 80
+marked a b c = grind (arith, nat_tests)
+
+pub mark_read :
+    (plan : List ℕ) → 3 ≤ length plan
+    → starts_with eqb plan (82 ∷ 67 ∷ 80 ∷ []) ≡ eqb (get_or plan 0 0) 82 && eqb (get_or plan 1 0) 67 && eqb (get_or plan 2 0) 80
+mark_read (a ∷ b ∷ c ∷ rest) h = marked a b c
+mark_read (a ∷ b ∷ []) h = absurd (omega arith)
+mark_read (a ∷ []) h = absurd (omega arith)
+mark_read [] h = absurd (omega arith)
 
 -- the tests and the facts agree
 module _ (p : PlanningSheet) where

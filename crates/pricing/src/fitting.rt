@@ -7,20 +7,20 @@ ghost use Rattle.chain.specs.PlanBytes.{plan_size, ends_at, shaped};
 ghost use Rattle.pricing.specs.Fitting.{reaches, fitting};
 
 use base::numbers;
+use chain::reading;
 use sheet::{MAINTAIN, RENOVATE, REPLACE, Sheet};
 
 // Whether the bytes have a plan's length, mark and version.
+#[tactic(auto, using(crate::proofs::FittingLaws::mark_read), unfolding(chain::specs::PlanBytes::shaped))]
 fn shaped(plan: &[u8]) -> bool
     ensures { result ≡ shaped plan.now }
 {
     if plan.len() < 19 {
         return false;
     }
-    let m = numbers::u16_at(plan, 17);
+    let m = reading::count_of(plan);
     let version = numbers::u16_at(plan, 3);
-    (19 + 2 * m == plan.len() as u64)
-        & ((plan[0] == b'R') & (plan[1] == b'C') & (plan[2] == b'P'))
-        & (version == 1)
+    19 + 2 * m == plan.len() && plan.starts_with(b"RCP") && version == 1
 }
 
 // Whether replacements lead from a year to the horizon: that many, whose ends stand from byte 19 on.
@@ -29,16 +29,12 @@ fn reaches(sheet: Sheet, start: u64, plan: &[u8], count: usize) -> bool
     ensures { (p : PlanningSheet) → sheet ≡ parsed p → result ≡ reaches p start (ends_at plan.now 19 count) }
 {
     let mut year = start;
-    let mut at: usize = 19;
-    let mut left = count;
-    while 0 < left {
-        let end = numbers::u16_at(plan, at);
+    for k in 0..count {
+        let end = reading::end_at(plan, k);
         if !costing::offer::offered(sheet, REPLACE, year, end) {
             return false;
         }
         year = end;
-        at += 2;
-        left -= 1;
     }
     year == sheet.horizon
 }
@@ -50,14 +46,14 @@ pub fn plan_fits(sheet: Sheet, plan: &[u8]) -> bool
     if !shaped(plan) {
         return false;
     }
-    let i = numbers::u16_at(plan, 13);
+    let i = reading::i_of(plan);
     if !costing::offer::offered(sheet, MAINTAIN, 0, i) {
         return false;
     }
-    let j = numbers::u16_at(plan, 15);
+    let j = reading::j_of(plan);
     if !costing::offer::offered(sheet, RENOVATE, i, j) {
         return false;
     }
-    let count = numbers::u16_at(plan, 17);
-    reaches(sheet, j, plan, count as usize)
+    let count = reading::count_of(plan);
+    reaches(sheet, j, plan, count)
 }

@@ -9,7 +9,7 @@ ghost use Rattle.chain.specs.Chain.{replacements, spent, rounded_total};
 ghost use Rattle.chain.specs.PlanBytes.{plan_size, count_field, ends_at, decode};
 ghost use Rattle.chain.specs.Ordered.{Climbs, Ordered};
 
-use base::numbers;
+use chain::reading;
 use sheet::{MAINTAIN, RENOVATE, REPLACE, Sheet};
 use steps::Units;
 
@@ -21,15 +21,11 @@ fn replaced(sheet: Sheet, start: u64, plan: &[u8], count: usize) -> Units
     ensures room { result.0 + start * yearly ≤ sheet.horizon * yearly }
 {
     let mut year = start;
-    let mut at: usize = 19;
-    let mut left = count;
     let mut sum = 0;
-    while 0 < left {
-        let end = numbers::u16_at(plan, at);
+    for k in 0..count {
+        let end = reading::end_at(plan, k);
         sum += costing::arc_cost(sheet, REPLACE, year, end).0;
         year = end;
-        at += 2;
-        left -= 1;
     }
     Units(sum)
 }
@@ -40,12 +36,12 @@ pub fn plan_total(sheet: Sheet, plan: &[u8]) -> Units
     requires ordered { Ordered sheet.horizon (decode plan.now) }
     ensures { (p : PlanningSheet) → sheet ≡ parsed p → result.0 ≡ rounded_total p (decode plan.now) }
 {
-    let i = numbers::u16_at(plan, 13);
-    let j = numbers::u16_at(plan, 15);
-    let count = numbers::u16_at(plan, 17);
+    let i = reading::i_of(plan);
+    let j = reading::j_of(plan);
+    let count = reading::count_of(plan);
     let maintained = costing::arc_cost(sheet, MAINTAIN, 0, i);
     let renovated = costing::arc_cost(sheet, RENOVATE, i, j);
-    let replacements = replaced(sheet, j, plan, count as usize);
+    let replacements = replaced(sheet, j, plan, count);
     let later = renovated.0 + replacements.0;
     let sum = maintained.0 + later;
     Units(sum)

@@ -12,21 +12,18 @@ returns-then-plan-lt19 c =
 pub returns-then-plan-count : goal.returns-then-plan-count
 returns-then-plan-count c =
     let held =
-    plan_cut _ _ (omega (arith, c.u16_at-count.ensures.0)) in
+    plan_cut _ _ (omega (arith, c.count_of-count.ensures.0)) in
     record { text = held.0; length = held.1.0; front = held.1.1 }
 
 pub returns-then-text-count : goal.returns-then-text-count
 returns-then-text-count c =
     let held =
-    text_short _ _ (omega (arith, c.u16_at-count.ensures.0)) in
+    text_short _ _ (omega (arith, c.count_of-count.ensures.0)) in
     record { text = held.0; length = held.1.0; front = held.1.1 }
-
-pub put_plan-requires : goal.put_plan-requires
-put_plan-requires c = (c.u16_at-count.ensures.0, omega arith, omega arith)
 
 pub returns : goal.returns
 returns c =
     let held =
-    let m = c.u16_at-count.ensures.0 in
+    let m = c.count_of-count.ensures.0 in
     lines_put _ _ (omega arith) (omega arith) _ _ c.put_plan.ensures in
     record { text = held.0; length = held.1.0; front = held.1.1 }
