@@ -5,7 +5,6 @@ ghost use Rattle.sheet.specs.Sheet.{replace};
 ghost use Rattle.tails.specs.Words.{total_of, first_end};
 ghost use Rattle.tails.specs.Writing.{AheadHeld, ChosenBehind, Settles, YearWritten, TwoWritten, LastWritten, AllWritten, Fillable};
 
-use base::order;
 use division::Divisor;
 use sheet::{REPLACE, Sheet};
 use weighing::Best;
@@ -99,7 +98,7 @@ fn last_years(
     year
 }
 
-// Writes those of the two years before a year that is reached, and answers the earlier of the two.
+// Writes those of the two years before a year that is reached.
 fn two_years(
     words: &mut [u64],
     firsts: &mut [u64],
@@ -109,13 +108,12 @@ fn two_years(
     sheet: Sheet,
     discount: Divisor,
     reached: u64,
-) -> u64
+)
     requires fillable { Fillable sheet discount streams.now ages.now words.old firsts.old ahead.old }
     requires le_reached { (2 ≤ reached) × (reached ≤ sheet.horizon) × AheadHeld replace sheet reached ahead.old }
-    ensures reached { result ≡ reached - 2 }
     ensures words { TwoWritten total_of sheet reached words.old words.new }
     ensures firsts { TwoWritten first_end sheet reached firsts.old firsts.new }
-    ensures ahead { AheadHeld replace sheet result ahead.new }
+    ensures ahead { AheadHeld replace sheet (reached - 2) ahead.new }
 {
     let horizon = sheet.horizon;
     let start = reached - 1;
@@ -123,7 +121,7 @@ fn two_years(
     let kept = costing::kept_of(sheet, REPLACE, from);
     let next = kept.starting(start);
     let terms = kept.terms;
-    let years = order::smaller(terms.longest, horizon - from);
+    let years = terms.longest.min(horizon - from);
     let mut earlier = [0u64; 120];
     let mut later = [0u64; 120];
     weighing::arcs::two_starts(
@@ -141,7 +139,6 @@ fn two_years(
     settle(words, firsts, ahead, streams, sheet, start, second);
     let first = weighing::best_of(ahead, &earlier, kept, horizon, weighing::NOTHING);
     settle(words, firsts, ahead, streams, sheet, from, first);
-    from
 }
 
 // Writes those of every year, from T down to 0, each once.
@@ -158,8 +155,17 @@ pub fn fill(
     ensures words { AllWritten total_of sheet words.old words.new }
     ensures firsts { AllWritten first_end sheet firsts.old firsts.new }
 {
-    let mut y = last_years(words, firsts, ahead, streams, ages, sheet, discount);
-    while 0 < y {
-        y = two_years(words, firsts, ahead, streams, ages, sheet, discount, y);
+    let last = last_years(words, firsts, ahead, streams, ages, sheet, discount);
+    for pair in (1..=last / 2).rev() {
+        two_years(
+            words,
+            firsts,
+            ahead,
+            streams,
+            ages,
+            sheet,
+            discount,
+            2 * pair,
+        );
     }
 }
