@@ -10,7 +10,6 @@ ghost use Rattle.weighing.specs.Ends.{WordsFit};
 ghost use Rattle.front.specs.Front.{TailsLent, AheadLent, NoTotals, TotalsHeld, EndsHeld};
 
 use crate::keeping;
-use base::order;
 use division::Divisor;
 use sheet::{MAINTAIN, RENOVATE, Sheet, YEARS};
 use streams::lending;
@@ -24,9 +23,7 @@ fn look_ahead(ahead: &mut [u64], words: &[u64], streams: &[u64], sheet: Sheet)
 {
     let horizon = sheet.horizon;
     ahead[horizon as usize] = 0;
-    let mut year = horizon;
-    while 0 < year {
-        year -= 1;
+    for year in (0..horizon).rev() {
         ahead::look_ahead(ahead, words, streams, year);
     }
 }
@@ -50,15 +47,16 @@ fn fill(
     let horizon = sheet.horizon;
     let maintain = sheet.options[MAINTAIN as usize];
     let shortest = maintain.shortest;
-    let top = order::smaller(maintain.longest, horizon);
-    let mut i: u64 = 0;
-    while i <= top {
+    let top = maintain.longest.min(horizon);
+    for i in 0..=top {
+        if 0 < i && i < shortest {
+            continue;
+        }
         let kept = costing::kept_of(sheet, RENOVATE, i);
         let behind = words[i as usize];
         let best = keeping::best_from(behind, ahead, streams, ages, kept, discount, horizon);
         totals[i as usize] = best.total;
         ends[i as usize] = best.end;
-        i = order::larger(i + 1, shortest);
     }
 }
 
