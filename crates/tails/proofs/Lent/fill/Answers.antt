@@ -4,12 +4,12 @@ use mathlib.Core.Path.{◌≡◌}
 use native.Mathlib.Omega.{arith}
 use Rattle.tails.specs.Words.{total_of, first_end}
 use Rattle.tails.proofs.WritingLaws.{last_same, last_two, last_all}
-use Rattle.tails.proofs.words.fill.Goals as goal
+use Rattle.tails.proofs.Lent.fill.Goals as goal
 
 pub loop-pair-init : goal.loop-pair-init
 loop-pair-init c =
     let l = c.last_years-last in
-    let s = c.args.sheet in
+    let s = c.args.self.now.sheet in
     let even : l.result ≡ 2 * (l.result / 2) = omega arith in
     record {
       words = last_same total_of s c.args.words.now _ _ even l.new.words l.ensures.words;
@@ -24,7 +24,7 @@ two_years-requires-clause-le_reached c =
 
 pub loop-pair-preserved : goal.loop-pair-preserved
 loop-pair-preserved c =
-    let s = c.args.sheet in
+    let s = c.args.self.now.sheet in
     let h = c.loop-pair.invariant in
     let t = c.two_years in
     let pair = c.loop-pair.pair in
@@ -46,6 +46,6 @@ pub returns : goal.returns
 returns c =
     let h = c.loop-pair.invariant in
     record {
-      words = last_all total_of c.args.sheet c.args.words.now (2 * c.loop-pair.pair) c.loop-pair.words h.words (omega arith);
-      firsts = last_all first_end c.args.sheet c.args.firsts.now (2 * c.loop-pair.pair) c.loop-pair.firsts h.firsts (omega arith);
+      words = last_all total_of c.args.self.now.sheet c.args.words.now (2 * c.loop-pair.pair) c.loop-pair.words h.words (omega arith);
+      firsts = last_all first_end c.args.self.now.sheet c.args.firsts.now (2 * c.loop-pair.pair) c.loop-pair.firsts h.firsts (omega arith);
     }
