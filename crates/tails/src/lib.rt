@@ -41,8 +41,8 @@ pub fn tail_words(words: &mut [u64], firsts: &mut [u64], sheet: Sheet)
     let mut streams = [0u64; streams::PLACES];
     let ages = streams::lending::lend(&mut streams, sheet, discount, REPLACE);
     let lent = Lent {
-        sheet: sheet,
-        discount: discount,
+        sheet,
+        discount,
         streams: &streams,
         ages: &ages,
     };

@@ -95,8 +95,7 @@ impl Lent<'_> {
         let from = reached - 2;
         let kept = costing::kept_of(self.sheet, REPLACE, from);
         let next = kept.starting(start);
-        let terms = kept.terms;
-        let years = terms.longest.min(horizon - from);
+        let years = kept.terms.longest.min(horizon - from);
         let mut earlier = [0u64; 120];
         let mut later = [0u64; 120];
         weighing::arcs::two_starts(

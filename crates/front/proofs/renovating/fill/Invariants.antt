@@ -3,4 +3,4 @@ use Rattle.front.proofs.RenovationLaws.{Renovated}
 use Rattle.front.proofs.renovating.fill.Given as goal
 
 abbrev pub invariant-loop-i : goal.invariant-loop-i
-invariant-loop-i l = Renovated l.fn.sheet l.shortest l.i l.totals l.ends
+invariant-loop-i l = Renovated l.fn.lent.sheet l.shortest l.i l.totals l.ends

@@ -11,7 +11,7 @@ pub loop-year-init : goal.loop-year-init
 loop-year-init c =
     let some = c.requires.sheet_fits.0 in
     let h = some.fit.horizon_high in
-    ahead_last c.args.sheet some renovate (omega arith) c.args.ahead.now (omega (arith, c.requires.sheet_fits.1))
+    ahead_last c.args.lent.now.sheet some renovate (omega arith) c.args.ahead.now (omega (arith, c.requires.sheet_fits.1))
 
 pub look_ahead-requires : goal.look_ahead-requires
 look_ahead-requires c =
@@ -27,8 +27,8 @@ look_ahead-requires c =
       word = omega (arith, words.room);
       lent = lent.room;
       room =
-          look_room a.sheet some renovate (omega arith) a.streams.now lent y (omega arith) a.words.now
-          (word_held a.sheet a.words.now words y (omega arith));
+          look_room a.lent.now.sheet some renovate (omega arith) a.lent.now.streams.now lent y (omega arith) a.words.now
+          (word_held a.lent.now.sheet a.words.now words y (omega arith));
     }
 
 pub loop-year-preserved : goal.loop-year-preserved
@@ -37,8 +37,8 @@ loop-year-preserved c =
     let some = c.requires.sheet_fits.0 in
     let h = some.fit.horizon_high in
     let y = c.loop-year.year - 1 in
-    look_held a.sheet some renovate (omega arith) a.streams.now c.requires.streams_of.0 y (omega arith) a.words.now
-    (word_held a.sheet a.words.now c.requires.streams_of.1 y (omega arith)) c.loop-year.ahead c.look_ahead.new.ahead (omega (arith, length-set {A = ℕ}))
+    look_held a.lent.now.sheet some renovate (omega arith) a.lent.now.streams.now c.requires.streams_of.0 y (omega arith) a.words.now
+    (word_held a.lent.now.sheet a.words.now c.requires.streams_of.1 y (omega arith)) c.loop-year.ahead c.look_ahead.new.ahead (omega (arith, length-set {A = ℕ}))
     (λ p read e l u. c.loop-year.invariant p read e (omega arith) u) c.look_ahead.ensures
 
 pub returns : goal.returns

@@ -4,4 +4,4 @@ use Rattle.tails.specs.Writing.{AheadHeld}
 use Rattle.front.proofs.renovating.look_ahead.Given as goal
 
 abbrev pub invariant-loop-year : goal.invariant-loop-year
-invariant-loop-year l = AheadHeld renovate l.fn.sheet l.year l.ahead
+invariant-loop-year l = AheadHeld renovate l.fn.lent.sheet l.year l.ahead
