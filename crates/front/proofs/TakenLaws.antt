@@ -1,14 +1,19 @@
 -- Where a choice has a total, it has taken an offered end and the entry behind it (`best_taken`): so the chosen replacements from a year go
 -- on from their first end (`tail_next`), and the planned chain begins with maintaining, renovating and the replacements from there
--- (`planned-front`, `planned_begins`). Assumes nothing.
+-- (`planned-front`, `planned_begins`), and i has a place (`planned_inside`). Assumes nothing.
 use Prim.Native.Nat.{ℕ, suc, ◌-◌, ◌≤◌, ◌<◌}
 use mathlib.Core.Path.{◌≡◌, refl, ap, sym, subst, ◌∙◌}
 use mathlib.Core.Bool.{true}
 use mathlib.Core.List.{List, [], ◌∷◌}
 use mathlib.Core.Logic.{⊎_elim}
+use native.Mathlib.Omega.{arith}
 use lib.ListN.{get_or}
 use Rattle.base.specs.Lists.{first_of}
 use Rattle.sheet.specs.Sheet.{PlanningSheet, maintain, renovate, replace}
+use Rattle.sheet.specs.Parsed.{parsed}
+use Rattle.sheet.specs.declared.Sheet.{Sheet}
+use Rattle.sheet.proofs.ParsedLaws.{horizon_read}
+use Rattle.checking.specs.Fit.{SheetFits}
 use Rattle.costing.specs.Arc.{cost_to}
 use Rattle.costing.specs.Offered.{offered}
 use Rattle.costing.proofs.OfferedLaws.{offered-iff}
@@ -102,3 +107,12 @@ module _ (p : PlanningSheet) where
       let inside = ((offered-iff p renovate t.end u.end).0 u.on).inside in
       subst (Begins f.i) j
       (subst (λ (i : ℕ). Begins i u.end) i (record { inside = inside; there = u.there; goes = ends }))
+
+-- of a sheet that passes the checks
+pub planned_inside :
+    (s : Sheet) → SheetFits s → (best : Best) → ((p : PlanningSheet) → s ≡ parsed p → best ≡ in_short (planned p))
+    → (best.total ≡ no_total → ⊥) → best.end ≤ 300
+planned_inside s some best read there =
+    let p = some.sheet in
+    let o = (offered-iff p maintain 0 best.end).0 (planned-front p best (read p some.read) there).0 in
+    omega (arith, o.inside, horizon_read s p some.read, some.fit.horizon_high)

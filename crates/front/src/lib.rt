@@ -32,6 +32,7 @@ pub fn best_front(words: &[u64], sheet: Sheet, discount: Divisor) -> Front
     requires tails_lent { TailsLent sheet words.now }
     ensures { (p : PlanningSheet) → sheet ≡ parsed p → result ≡ front (planned p) }
 {
+    // Two lists, and none of `Best`: the choice of maintaining reads the totals as words.
     let mut totals = [weighing::NONE; YEARS];
     let mut ends = [0u64; YEARS];
     renovating::renovations(&mut totals, &mut ends, words, sheet, discount);
@@ -62,6 +63,7 @@ pub fn ends_from(ends: &mut [u64], firsts: &[u64], sheet: Sheet, j: u64) -> usiz
 {
     let mut year = j;
     let mut count: usize = 0;
+    // A `while`: a `for` over the places would need an exit in its midst, since how many ends there are is known at the horizon.
     while year < sheet.horizon {
         year = firsts[year as usize];
         ends[count] = year;

@@ -14,6 +14,7 @@ use crate::keeping;
 use division::Divisor;
 use sheet::{MAINTAIN, Sheet};
 use streams::lending;
+use tails::Lent;
 use weighing::Best;
 
 // The choice of the end of maintaining, which starts in year 0.
@@ -25,13 +26,11 @@ pub fn best_maintain(totals: &[u64], sheet: Sheet, discount: Divisor) -> Best
     let mut streams = [0u64; streams::PLACES];
     let ages = lending::lend(&mut streams, sheet, discount, MAINTAIN);
     let kept = costing::kept_of(sheet, MAINTAIN, 0);
-    keeping::best_from(
-        totals[0],
-        totals,
-        &streams,
-        &ages,
-        kept,
+    let lent = Lent {
+        sheet,
         discount,
-        sheet.horizon,
-    )
+        streams: &streams,
+        ages: &ages,
+    };
+    keeping::best_from(totals[0], totals, &lent, kept)
 }

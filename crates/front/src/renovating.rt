@@ -5,60 +5,50 @@ ghost use Rattle.sheet.specs.Layout.{year_places};
 ghost use Rattle.sheet.specs.Sheet.{renovate};
 ghost use Rattle.checking.specs.Fit.{SheetFits};
 ghost use Rattle.steps.specs.Fit.{Divides};
-ghost use Rattle.streams.specs.Streams.{StreamsOf, Lent};
+ghost use Rattle.streams.specs.Streams.{StreamsOf};
 ghost use Rattle.weighing.specs.Ends.{WordsFit};
-ghost use Rattle.front.specs.Front.{TailsLent, AheadLent, NoTotals, TotalsHeld, EndsHeld};
+ghost use Rattle.front.specs.Front.{TailsLent, RenovateLent, AheadLent, NoTotals, TotalsHeld, EndsHeld};
 
 use crate::keeping;
-use base::order;
 use division::Divisor;
 use sheet::{MAINTAIN, RENOVATE, Sheet, YEARS};
 use streams::lending;
+use tails::Lent;
 use weighing::ahead;
 
 // Writes the totals behind the ends of renovating: at the horizon nothing is added.
-fn look_ahead(ahead: &mut [u64], words: &[u64], streams: &[u64], sheet: Sheet)
-    requires sheet_fits { SheetFits sheet × (year_places ≤ length ahead.old) }
-    requires streams_of { StreamsOf sheet renovate streams.now × TailsLent sheet words.now }
-    ensures { AheadLent sheet ahead.new }
+fn look_ahead(ahead: &mut [u64], words: &[u64], lent: &Lent)
+    requires sheet_fits { SheetFits lent.now.sheet × (year_places ≤ length ahead.old) }
+    requires streams_of { StreamsOf lent.now.sheet renovate lent.now.streams.now × TailsLent lent.now.sheet words.now }
+    ensures { AheadLent lent.now.sheet ahead.new }
 {
-    let horizon = sheet.horizon;
+    let horizon = lent.sheet.horizon;
     ahead[horizon as usize] = 0;
-    let mut year = horizon;
-    while 0 < year {
-        year -= 1;
-        ahead::look_ahead(ahead, words, streams, year);
+    for year in (0..horizon).rev() {
+        ahead::look_ahead(ahead, words, lent.streams, year);
     }
 }
 
 // Writes, for year 0 and each later year in which maintaining may end, the least total from there and the end of renovating.
-fn fill(
-    totals: &mut [u64],
-    ends: &mut [u64],
-    words: &[u64],
-    ahead: &[u64],
-    streams: &[u64],
-    ages: &[u64; 8],
-    sheet: Sheet,
-    discount: Divisor,
-)
-    requires sheet_fits { SheetFits sheet × Divides discount sheet.discount }
-    requires lent { Lent sheet renovate streams.now ages.now × TailsLent sheet words.now × AheadLent sheet ahead.now }
+fn fill(totals: &mut [u64], ends: &mut [u64], words: &[u64], ahead: &[u64], lent: &Lent)
+    requires renovate_lent { RenovateLent lent.now.sheet lent.now.discount lent.now.streams.now lent.now.ages.now }
+    requires behind { TailsLent lent.now.sheet words.now × AheadLent lent.now.sheet ahead.now }
     requires no_totals { NoTotals totals.old × (year_places ≤ length totals.old) × (year_places ≤ length ends.old) }
-    ensures { TotalsHeld sheet totals.new × WordsFit sheet.horizon 0 totals.new × EndsHeld sheet ends.new }
+    ensures { TotalsHeld lent.now.sheet totals.new × WordsFit lent.now.sheet.horizon 0 totals.new × EndsHeld lent.now.sheet ends.new }
 {
-    let horizon = sheet.horizon;
-    let maintain = sheet.options[MAINTAIN as usize];
+    let horizon = lent.sheet.horizon;
+    let maintain = lent.sheet.options[MAINTAIN as usize];
     let shortest = maintain.shortest;
-    let top = order::smaller(maintain.longest, horizon);
-    let mut i: u64 = 0;
-    while i <= top {
-        let kept = costing::kept_of(sheet, RENOVATE, i);
+    let top = maintain.longest.min(horizon);
+    for i in 0..=top {
+        if 0 < i && i < shortest {
+            continue;
+        }
+        let kept = costing::kept_of(lent.sheet, RENOVATE, i);
         let behind = words[i as usize];
-        let best = keeping::best_from(behind, ahead, streams, ages, kept, discount, horizon);
+        let best = keeping::best_from(behind, ahead, lent, kept);
         totals[i as usize] = best.total;
         ends[i as usize] = best.end;
-        i = order::larger(i + 1, shortest);
     }
 }
 
@@ -77,9 +67,13 @@ pub fn renovations(
 {
     let mut streams = [0u64; streams::PLACES];
     let ages = lending::lend(&mut streams, sheet, discount, RENOVATE);
+    let lent = Lent {
+        sheet,
+        discount,
+        streams: &streams,
+        ages: &ages,
+    };
     let mut ahead = [0u64; YEARS];
-    look_ahead(&mut ahead, words, &streams, sheet);
-    fill(
-        totals, ends, words, &ahead, &streams, &ages, sheet, discount,
-    );
+    look_ahead(&mut ahead, words, &lent);
+    fill(totals, ends, words, &ahead, &lent);
 }

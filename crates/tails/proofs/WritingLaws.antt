@@ -1,5 +1,5 @@
 -- A list of one figure of the table's entries can be written from T down: first the figure of T (`last_first`), then that of each year before
--- (`last_more`), two at a time (`last_two`), until all are written (`last_all`). The length is kept (`last-length`), and what is asked of the lists
+-- (`last_more`), two at a time (`last_two`), from the same year (`last_same`), until all are written (`last_all`). The length is kept (`last-length`), and what is asked of the lists
 -- holds on (`fillable_on`) and is what settling a year asks (`fillable_settles`). Assumes nothing.
 use Prim.Native.Nat.{ℕ, suc, ◌+◌, ◌-◌, ◌≤◌, ◌<◌}
 use mathlib.Core.Path.{◌≡◌, sym, ap, ◌∙◌}
@@ -62,6 +62,9 @@ module _ (figure : Entry → ℕ) (s : Sheet) (list : List ℕ) where
       ∙ ap (λ (T : ℕ). set list T (figure nothing_left)) (here ∙ same)
       ∙ sym (from_last figure p list)
       ∙ ap (λ (n : ℕ). of_last figure p n list) none
+
+  pub last_same : (y z : ℕ) → y ≡ z → (new : List ℕ) → LastWritten figure s y list new → LastWritten figure s z list new
+  last_same y z same new written p read = written p read ∙ ap (λ (y : ℕ). of_last figure p (p.horizon - y) list) same
 
   module _ (reached : ℕ) (early : reached ≤ s.horizon) (between : List ℕ) (written : LastWritten figure s reached list between) where
     one_more :

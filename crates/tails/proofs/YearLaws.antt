@@ -1,36 +1,41 @@
--- The choice of a replacement from a year, by the totals behind its ends, is the table's (`chosen_tail`); the arcs to be weighed can be walked
--- (`replace_walks`); and two years written one after the other are two (`two_written`). A replacement within the horizon is well placed
--- (`replace-placed`), and none ends at once (`not_at_once`). Assumes nothing.
-use Prim.Native.Nat.{ℕ, ◌-◌, ◌≤◌, ◌<◌}
+-- The choice of a replacement from a year, by the totals behind its ends, is the table's (`chosen_tail`), and its total the word of the year
+-- (`word_chosen`). The option, once it is kept, is the same from another year (`replace_next`), its arcs can be walked (`replace_walks`), and the
+-- totals behind its ends are what the choice asks (`replace_behind`). Two years written one after the other are two (`two_written`). A replacement
+-- within the horizon is well placed (`replace-placed`), and none ends at once (`not_at_once`). Assumes nothing.
+use Prim.Native.Nat.{ℕ, ◌+◌, ◌-◌, ◌≤◌, ◌<◌}
 use mathlib.Core.Path.{◌≡◌, refl, ap, sym, subst, ◌∙◌}
 use mathlib.Core.List.{List}
 use mathlib.Core.Bool.{true, false}
 use mathlib.Core.Logic.{inl}
 use native.Mathlib.Numerals.{add-one}
 use native.Mathlib.Omega.{arith}
+use lib.ListN.{length, set}
+use lib.Seq.{get_or-set_same}
 use Rattle.base.proofs.TestLaws.{by_test}
 use Rattle.division.specs.declared.Divisor.{Divisor}
+use Rattle.sheet.specs.Layout.{year_places}
 use Rattle.sheet.specs.Sheet.{PlanningSheet, replace}
 use Rattle.sheet.specs.Parsed.{parsed}
 use Rattle.sheet.specs.declared.Sheet.{Sheet}
 use Rattle.sheet.proofs.ParsedLaws.{horizon_read}
-use Rattle.checking.specs.Fit.{Fit}
-use Rattle.costing.specs.Arc.{kept_of, arc_of, cost_to}
+use Rattle.checking.specs.Fit.{Fit, SheetFits}
+use Rattle.costing.specs.Arc.{kept_of, kept_from, arc_of, cost_to}
 use Rattle.costing.specs.Offered.{placed, offered}
-use Rattle.costing.proofs.SheetArcLaws.{kept_read, kept_of_fits}
+use Rattle.costing.specs.declared.Kept.{Kept}
+use Rattle.costing.proofs.SheetArcLaws.{kept_read, kept_of_fits, replace-from}
 use Rattle.costing.proofs.OfferedLaws.{placed-iff, offered-iff}
 use Rattle.choice.specs.Running.{Entry, no_entry, entries, over_ends}
 use Rattle.choice.proofs.RunningLaws.{over_start}
 use Rattle.chain.proofs.FeasibleLaws.{replace_forward}
 use Rattle.weighing.specs.Best.{in_short}
-use Rattle.weighing.specs.Ends.{word_of, Walks}
+use Rattle.weighing.specs.Ends.{word_of, Walks, WordsBehind}
 use Rattle.weighing.specs.Ahead.{ahead_of, adds_at}
 use Rattle.weighing.specs.declared.Best.{Best}
 use Rattle.weighing.proofs.SheetEndLaws.{lent_walks, cost_removed, ends_over}
 use Rattle.tails.specs.Tail.{best_end, tail_from}
-use Rattle.tails.specs.Writing.{chosen_by, ChosenBehind, with_year, YearWritten, TwoWritten, Fillable}
+use Rattle.tails.specs.Writing.{chosen_by, AheadHeld, ChosenBehind, with_year, YearWritten, TwoWritten, Fillable}
 use Rattle.tails.proofs.TailLaws.{tail_step}
-use Rattle.tails.proofs.AheadLaws.{ahead_sums}
+use Rattle.tails.proofs.AheadLaws.{ahead_sums, words_behind}
 
 -- a replacement within the horizon is well placed
 pub replace-placed : (T y e : ℕ) → y < e → e ≤ T → placed T replace y e ≡ true
@@ -67,13 +72,33 @@ chosen_tail s fit y ahead best early behind p read =
     behind.chosen ∙ ap (λ (T : ℕ). chosen_by (kept_of s replace y) T ahead) same
     ∙ tail_over p (subst Fit read fit) s read ahead y (omega (arith, same)) (λ e l m. behind.held p read e (omega arith) m)
 
--- the arcs of replacements from a year can be walked, by what is handed to the writing
-pub replace_walks :
-    (s : Sheet) (discount : Divisor) (streams ages words firsts ahead : List ℕ) → Fillable s discount streams ages words firsts ahead
-    → (y : ℕ) → y ≤ s.horizon → Walks (kept_of s replace y) discount s.horizon streams ages
-replace_walks s discount streams ages words firsts ahead given y early =
-    lent_walks s discount replace y streams ages (kept_of_fits s given.sheet.fit replace y (omega arith) (omega (arith, given.sheet.fit.horizon_high)))
-    given.divides early given.lent
+-- and its total, once it is written, is the word of the year
+pub word_chosen :
+    (s : Sheet) → Fit s → (y : ℕ) (ahead : List ℕ) (best : Best) → y < s.horizon → ChosenBehind s y ahead best
+    → (words words' : List ℕ) → y < length words → words' ≡ set words y best.total
+    → (p : PlanningSheet) → s ≡ parsed p → word_of words' y ≡ (tail_from p y).total
+word_chosen s fit y ahead best early behind words words' room written p read =
+    ap (λ (l : List ℕ). word_of l y) written
+    ∙ get_or-set_same words y best.total 0 room
+    ∙ ap (λ (best : Best). best.total) (chosen_tail s fit y ahead best early behind p read)
+
+-- the option replace, kept from a year, is the same when it is kept from another; its arcs can be walked, by what is handed to the writing, and are
+-- chosen by the totals behind
+module _ (s : Sheet) (y : ℕ) {a : Kept} (kept : a ≡ kept_of s replace y) where
+  pub replace_next : (z : ℕ) → kept_from a z ≡ kept_of s replace z
+  replace_next z = ap (λ (a : Kept). kept_from a z) kept ∙ replace-from s y z
+
+  pub replace_walks :
+      (discount : Divisor) (streams ages words firsts ahead : List ℕ) → Fillable s discount streams ages words firsts ahead
+      → y ≤ s.horizon → Walks a discount s.horizon streams ages
+  replace_walks discount streams ages words firsts ahead given early =
+      rw kept
+      (lent_walks s discount replace y streams ages (kept_of_fits s given.sheet.fit replace y (omega arith) (omega (arith, given.sheet.fit.horizon_high)))
+      given.divides early given.lent)
+
+  pub replace_behind :
+      (ahead : List ℕ) → SheetFits s → y ≤ s.horizon → year_places ≤ length ahead → AheadHeld replace s (y + 1) ahead → WordsBehind a s.horizon ahead
+  replace_behind ahead some early room held = rw kept (words_behind s some replace (omega arith) (kept_of s replace y) ahead early room held)
 
 -- one year and the year before it are two
 pub two_written :

@@ -86,3 +86,9 @@ pub record Fillable (s : Sheet) (discount : Divisor) (streams ages words firsts 
   pub enough : words_needed ≤ length words
   pub places : year_places ≤ length firsts
   pub behind : year_places ≤ length ahead
+
+-- of that, what the choices go by: the sheet, its divisor and what is lent
+pub record ReplaceLent (s : Sheet) (discount : Divisor) (streams ages : List ℕ) : Type 0 where
+  pub sheet : SheetFits s
+  pub divides : Divides discount s.discount
+  pub lent : Lent s replace streams ages

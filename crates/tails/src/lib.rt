@@ -13,9 +13,19 @@ ghost use Rattle.tails.specs.Cheapest.{CheapestWords};
 ghost use Rattle.tails.specs.Writing.{AllWritten};
 
 use division::Divisor;
-use sheet::{REPLACE, Sheet, YEARS};
+use sheet::{REPLACE, Sheet};
 
 mod words;
+
+// What the choices of one option of a sheet go by: the sheet with its divisor, and what is lent for the option, its streams and the ages of its
+// overhauls.
+#[derive(Clone, Copy)]
+pub struct Lent<'a> {
+    pub sheet: Sheet,
+    pub discount: Divisor,
+    pub streams: &'a [u64],
+    pub ages: &'a [u64; 8],
+}
 
 // Planning wants this many words.
 pub const WORDS: usize = 301;
@@ -30,6 +40,11 @@ pub fn tail_words(words: &mut [u64], firsts: &mut [u64], sheet: Sheet)
     let discount = Divisor::of(sheet.discount);
     let mut streams = [0u64; streams::PLACES];
     let ages = streams::lending::lend(&mut streams, sheet, discount, REPLACE);
-    let mut ahead = [0u64; YEARS];
-    words::fill(words, firsts, &mut ahead, &streams, &ages, sheet, discount);
+    let lent = Lent {
+        sheet,
+        discount,
+        streams: &streams,
+        ages: &ages,
+    };
+    lent.fill(words, firsts);
 }

@@ -12,5 +12,7 @@ returns c p read =
 
 pub best_from-requires : goal.best_from-requires
 best_from-requires c =
-    lent_asks c.args.sheet c.requires.sheet_fits.0.fit _ c.requires.sheet_fits.1 maintain 0 _ _ c.args.totals.now (omega arith) (omega arith) c.lend-ages.ensures
-    c.requires.totals_held.0.room c.requires.totals_held.1 c.kept_of-kept.ensures
+    let asks =
+    lent_asks c.args.sheet c.requires.sheet_fits.0.fit _ c.requires.sheet_fits.1 maintain 0 _ _ c.args.totals.now (omega arith) (omega arith)
+    c.lend-ages.ensures c.requires.totals_held.0.room c.requires.totals_held.1 c.kept_of-kept.ensures in
+    record { walks = asks.0; words_behind = asks.1 }
