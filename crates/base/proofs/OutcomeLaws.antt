@@ -3,7 +3,7 @@
 --     number_pos, number_lt, option_lt      a refusal's number is 1 to 16, its option at most 3
 --     accepted_number, refused_number, passed_number      a call is accepted exactly when its number is 0
 --     passed_on      a refusal is passed on as it is
---     accepts, ok_total, priced_exactly, near_total      what is said of an answer's number and total, said of the outcome
+--     accepts, ok_total, priced_exactly, near_total, total_near      what is said of an answer's number and total, said of the outcome
 -- Assumes nothing.
 use Prim.Native.Nat.{ℕ, zero, suc, ◌<◌, ◌≤◌}
 use mathlib.Core.Path.{◌≡◌, refl, sym, ap}
@@ -85,3 +85,7 @@ priced_exactly r h total = Iff.trans (Iff.symm (ok_total r total)) (h total)
 pub near_total : (r : Result ℕ Refusal) (N : ℕ → Type 0) → ((answer_of r).number ≡ 0 → N (answer_of r).total) → IfOk r N
 near_total (Ok t) N h = h refl
 near_total (Err x) N h = tt
+
+pub total_near : (r : Result ℕ Refusal) (N : ℕ → Type 0) → IfOk r N → (answer_of r).number ≡ 0 → N (answer_of r).total
+total_near (Ok t) N h e = h
+total_near (Err x) N h e = let p = number_pos x in absurd (omega arith)

@@ -10,9 +10,9 @@ returns c =
     let a = c.args in
     let h = c.plan.ensures in
     let r = c.pack.ensures in
-    let promised = promised_of a.sheet.now a.plan.now a.words.now (r.reads ∙ h.answer) h.plan h.words in
+    let promised = promised_of a.sheet.now a.plan.now a.words.now (r.reads ∙ c.from.ensures ∙ h.answer) h.plan h.words in
     record {
-      answer = returns_same h.answer r;
+      answer = returns_same (c.from.ensures ∙ h.answer) r;
       plan = h.plan;
       words = h.words;
       promised = promised;
@@ -20,4 +20,4 @@ returns c =
 
 pub pack-requires : goal.pack-requires
 pack-requires c =
-    rw c.plan.ensures.answer (plan_packs _ _ _)
+    rw (c.from.ensures, c.plan.ensures.answer) (plan_packs _ _ _)

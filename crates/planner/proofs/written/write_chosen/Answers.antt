@@ -2,7 +2,6 @@
 use Prim.Native.Nat.{ℕ}
 use mathlib.Core.Path.{ap, ◌∙◌}
 use native.Mathlib.Omega.{arith}
-use Rattle.base.specs.Answer.{refused}
 use Rattle.sheet.proofs.ParsedLaws.{horizon_read}
 use Rattle.front.specs.declared.Front.{Front}
 use Rattle.front.proofs.TakenLaws.{planned_begins}
@@ -15,8 +14,7 @@ pub returns-then-total-clause-answer : goal.returns-then-total-clause-answer
 returns-then-total-clause-answer c =
     λ p read.
     let total = ap (λ (f : Front). f.total) (c.best_front-chosen.ensures p read) in
-    let none = planning_none p c.args.plan.now (omega (arith, total, c.if-total.true)) in
-    c.refused.ensures ∙ ap (λ (n : ℕ). refused n 3) (omega arith) ∙ none.0
+    (planning_none p c.args.plan.now (omega (arith, total, c.if-total.true))).0
 
 pub returns-then-total-clause-plan : goal.returns-then-total-clause-plan
 returns-then-total-clause-plan c =
@@ -42,7 +40,7 @@ returns-then-plan-count-clause-answer c =
     λ p read.
     let short =
     found_short p _ (c.best_front-chosen.ensures p read) (λ q. omega (arith, q, c.if-total.false)) _ _ (c.ends_from-count.ensures p read) c.args.plan.now c.if-plan-count.true in
-    c.refused-then-plan-count.ensures ∙ ap (λ (n : ℕ). refused n 3) (omega arith) ∙ short.0
+    short.0
 
 pub returns-then-plan-count-clause-plan : goal.returns-then-plan-count-clause-plan
 returns-then-plan-count-clause-plan c =
@@ -55,7 +53,7 @@ returns-clause-answer c =
     λ p read.
     let fits =
     found_fits p _ (c.best_front-chosen.ensures p read) (λ q. omega (arith, q, c.if-total.false)) _ _ (c.ends_from-count.ensures p read) c.args.plan.now c.if-plan-count.false in
-    c.accepted.ensures ∙ fits.0
+    fits.0
 
 pub returns-clause-plan : goal.returns-clause-plan
 returns-clause-plan c =
