@@ -26,5 +26,5 @@ returns-in-Err c =
     let planned = c.plan.ensures in
     let line = shown_refusal _ _ _ planned.answer planned.plan (refused_number (λ (t : ℕ). t) c.plan.result _ c.in-Err.is) in
     let shown = rw c.in-Err.is at line in
-    let held = sheet_put _ _ (omega arith) _ _ (rw shown ?) in
+    let held = sheet_put _ _ (omega arith) _ _ (rw shown (rw (c.from-number.ensures, c.number.ensures, c.from-option.ensures, c.option.ensures) at c.put_pair.ensures.puts)) in
     record { text = held.0; length = held.1.0; front = held.1.1.0; shows = held.1.1.1 }
