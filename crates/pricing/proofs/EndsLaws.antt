@@ -1,5 +1,5 @@
 -- One end more, and none: what the loops over a plan's ends need: whether replacements lead to T (`reaches_stop`, `reaches_next`,
--- `reaches_none`), their years (`climbs_more`, `climbs_next`) and what they cost (`spent_next`, `spent_none`). And the years
+-- `reaches_none`), their years (`climbs_more`, `climbs_next`) and what they cost (`spent_next`, `spent_none`); together they are `reaching` and `spending`. And the years
 -- and the total of the chain in a plan (`ordered_read`, `total_read`). Assumes nothing.
 use Prim.Native.Nat.{ℕ, ◌+◌, ◌-◌, ◌<◌, ◌≤◌}
 use mathlib.Core.Path.{◌≡◌, subst}
@@ -9,12 +9,13 @@ use lib.Dec.{eqb}
 use Rattle.base.specs.Lists.{sum_of}
 use Rattle.base.specs.Numbers.{u16_at}
 use Rattle.sheet.specs.Sheet.{PlanningSheet, maintain, renovate, replace}
+use Rattle.sheet.proofs.ParsedLaws.{horizon_read}
 use Rattle.costing.specs.Arc.{arc_of, cost}
 use Rattle.costing.specs.Offered.{offered}
 use Rattle.chain.specs.Chain.{replacements, activities, arcs_of, spent, rounded_total}
 use Rattle.chain.specs.PlanBytes.{count_field, ends_at, decode}
 use Rattle.chain.specs.Ordered.{Climbs, Ordered}
-use Rattle.chain.proofs.PlanBytesLaws.{ends_next}
+use Rattle.chain.proofs.PlanBytesLaws.{ends_next, ends_more, ends_done}
 use Rattle.chain.proofs.FeasibleLaws.{climbs_rest}
 use Rattle.pricing.specs.Fitting.{reaches}
 
@@ -50,6 +51,11 @@ module _ (p : PlanningSheet) (y : ℕ) {ends : List ℕ} (none : ends ≡ []) wh
   pub spent_none : spent p (replacements y ends) ≡ 0
   unfolding sum_of arcs_of replacements
   spent_none = rw none
+
+-- what a walk over the ends asks for, as it tests them and as it adds what they cost
+pub ruleset reaching = (ends_more, ends_done, reaches_next, reaches_none, horizon_read)
+
+pub ruleset spending = (ends_more, ends_done, climbs_more, spent_next, spent_none)
 
 -- where i, j and m are the numbers read from the plan
 module _ (plan : List ℕ) {i j m : ℕ} (first : i ≡ u16_at plan 13) (second : j ≡ u16_at plan 15) (third : m ≡ count_field plan) where

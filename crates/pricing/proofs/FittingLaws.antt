@@ -1,6 +1,7 @@
--- Laws of `fitting`. The mark is tested as std tests what a list begins with (`mark_read`). Its tests and the facts agree (`reaches-iff`, `feasible-iff`, `fitting-iff`). Part by part: bytes without a plan's shape,
--- maintaining or renovating that is not offered, and else what the replacements decide, where i, j and m are the numbers read from the plan
--- (`fitting-replaced`). Assumes nothing.
+-- Laws of `fitting`. The mark is tested as std tests what a list begins with (`mark_read`); bytes of a plan's shape are there to be read
+-- (`shaped_enough`, `shaped_long`). The tests and the facts agree (`reaches-iff`, `feasible-iff`, `fitting-iff`). Part by part: bytes without a
+-- plan's shape, maintaining or renovating that is not offered, and else what the replacements decide, where i, j and m are the numbers read from
+-- the plan (`fitting-replaced`); together they are `parts_of_fitting`. Assumes nothing.
 use Prim.Native.Nat.{ℕ, ◌≤◌}
 use mathlib.Core.Path.{◌≡◌}
 use mathlib.Core.List.{List, [], ◌∷◌}
@@ -17,7 +18,7 @@ use Rattle.sheet.specs.Sheet.{PlanningSheet, maintain, renovate, replace}
 use Rattle.costing.specs.Offered.{offered}
 use Rattle.costing.proofs.OfferedLaws.{offered-iff}
 use Rattle.chain.specs.Chain.{Chain, replacements, last, Reaches, Feasible}
-use Rattle.chain.specs.PlanBytes.{count_field, ends_at, decode, shaped, Shaped}
+use Rattle.chain.specs.PlanBytes.{plan_size, count_field, ends_at, decode, shaped, Shaped}
 use Rattle.chain.proofs.PlanBytesLaws.{shaped-iff}
 use Rattle.chain.proofs.FeasibleLaws.{feasible-parts}
 use Rattle.pricing.specs.Fitting.{reaches, feasible, fitting}
@@ -33,6 +34,14 @@ mark_read (a ∷ b ∷ c ∷ rest) h = marked a b c
 mark_read (a ∷ b ∷ []) h = absurd (omega arith)
 mark_read (a ∷ []) h = absurd (omega arith)
 mark_read [] h = absurd (omega arith)
+
+-- bytes of a plan's shape are there to be read
+module _ (plan : List ℕ) (ok : shaped plan ≡ true) where
+  pub shaped_enough : 19 ≤ length plan
+  shaped_enough = ((shaped-iff plan).0 ok).enough
+
+  pub shaped_long : length plan ≡ plan_size (count_field plan)
+  shaped_long = ((shaped-iff plan).0 ok).long
 
 -- the tests and the facts agree
 module _ (p : PlanningSheet) where
@@ -78,3 +87,6 @@ module _ (p : PlanningSheet) (plan : List ℕ) where
   pub fitting-iff : (fitting p plan ≡ true) ↔ (Shaped plan × Feasible p (decode plan))
   unfolding fitting
   fitting-iff = both_iff (shaped-iff plan) (feasible-iff p (decode plan))
+
+-- what a step through the parts of plan bytes asks for
+pub ruleset parts_of_fitting = (shaped_enough, shaped_long, fitting_unshaped, fitting_unmaintained, fitting_unrenovated, fitting-replaced)

@@ -24,6 +24,7 @@ fn shaped(plan: &[u8]) -> bool
 }
 
 // Whether replacements lead from a year to the horizon: that many, whose ends stand from byte 19 on.
+#[tactic(auto, using(crate::proofs::EndsLaws::reaching))]
 fn reaches(sheet: Sheet, start: u64, plan: &[u8], count: usize) -> bool
     requires { plan_size count ≤ length plan.now }
     ensures { (p : PlanningSheet) → sheet ≡ parsed p → result ≡ reaches p start (ends_at plan.now 19 count) }
@@ -40,6 +41,7 @@ fn reaches(sheet: Sheet, start: u64, plan: &[u8], count: usize) -> bool
 }
 
 // Whether plan bytes are a feasible chain of the sheet.
+#[tactic(auto, using(crate::proofs::FittingLaws::parts_of_fitting))]
 pub fn plan_fits(sheet: Sheet, plan: &[u8]) -> bool
     ensures { (p : PlanningSheet) → sheet ≡ parsed p → result ≡ fitting p plan.now }
 {

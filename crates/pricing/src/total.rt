@@ -14,6 +14,7 @@ use sheet::{MAINTAIN, RENOVATE, REPLACE, Sheet};
 use steps::Units;
 
 // What replacements from a year on cost: that many, whose ends stand from byte 19 on.
+#[tactic(auto, using(crate::proofs::EndsLaws::spending))]
 fn replaced(sheet: Sheet, start: u64, plan: &[u8], count: usize) -> Units
     requires fit { Fit sheet × (plan_size count ≤ length plan.now) }
     requires climbs { Climbs sheet.horizon start (ends_at plan.now 19 count) }
