@@ -32,6 +32,7 @@ pub const NOTHING: Best = Best {
 };
 
 // The better of the choice so far and an arc to year end, if that is offered, with a total behind it: of equal totals the later end.
+#[tactic(auto, unfolding(choice::specs::Running::weigh))]
 pub fn weigh(offered: bool, best: Best, cost: Units, end: u64, behind: u64) -> Best
     requires { (behind ≡ no_total → ⊥) → cost.0 + behind < 2 ^ 64 }
     ensures { result ≡ cond offered (weigh numbers best cost.0 end behind) best }
