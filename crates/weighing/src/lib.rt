@@ -46,10 +46,7 @@ pub fn weigh(offered: bool, best: Best, cost: Units, end: u64, behind: u64) -> B
     let units = cost.0;
     let total = units + behind;
     if total <= best.total {
-        return Best {
-            total: total,
-            end: end,
-        };
+        return Best { total, end };
     }
     best
 }
@@ -68,9 +65,7 @@ pub fn best_end(
     ensures { result ≡ best_to kept horizon (word_of words.now) best }
 {
     let from = kept.from;
-    let terms = kept.terms;
-    let shortest = terms.shortest;
-    let top = terms.longest.min(horizon - from);
+    let top = kept.terms.longest.min(horizon - from);
     let mut chosen = best;
     let mut walk = streams::open(streams, kept, streams::power(streams, kept), horizon);
     let mut next: usize = 0;
@@ -80,7 +75,7 @@ pub fn best_end(
         next = due.next;
         let end = from + n + 1;
         chosen = weigh(
-            shortest <= n + 1,
+            kept.terms.shortest <= n + 1,
             chosen,
             walk.cost,
             end,
@@ -120,15 +115,14 @@ pub fn best_of(words: &[u64], costs: &[u64], kept: Kept, horizon: u64, best: Bes
     requires { CostsKnown kept horizon costs.now × WordsBehind kept horizon words.now }
     ensures { result ≡ best_to kept horizon (word_of words.now) best }
 {
-    let terms = kept.terms;
-    let years = terms.longest.min(horizon - kept.from);
-    let mut first = terms.shortest.saturating_sub(1).min(years);
+    let years = kept.terms.longest.min(horizon - kept.from);
+    let mut first = kept.terms.shortest.saturating_sub(1).min(years);
     let mut chosen = best;
     while let Some(n) = next_end(words, costs, kept, horizon, first, years, chosen.total) {
         let end = kept.from + n + 1;
         chosen = Best {
             total: costs[n as usize] + words[end as usize],
-            end: end,
+            end,
         };
         first = n + 1;
     }
