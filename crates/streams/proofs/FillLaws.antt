@@ -1,19 +1,18 @@
--- Streams as they are filled: the value of the next year is a plain step on (`once-zero`, `once-suc`), which fits (`once_fits`), or a step in
--- service (`served_zero`, `served_suc`), of which electricity's stream is one (`power_kept`, `power_new`, `power_same`); the places before the one that is written are left
--- (`left_next`), one stream more (`streams_next`), and streams that lie before what is written stay (`stream_stays`, `streams_stay`,
--- `left_through`). Assumes nothing.
-use Prim.Native.Nat.{ℕ, suc, ◌+◌, ◌-◌, ◌*◌, ◌≤◌, ◌<◌}
+-- Streams as they are filled by steps: one value more (`reached_next`), and the figure that steps give (`reached_figure`, `filled_by`). That is the
+-- value of an amount, where a step is plain (`once-zero`, `once-suc`) and fits (`once_fits`), or the running amount of a flow, where it is one in
+-- service (`served_zero`, `served_suc`), of which electricity's stream is one (`power_kept`, `power_new`, `power_same`); the places before the
+-- one that is written are left (`left_next`). Assumes nothing.
+use Prim.Native.Nat.{ℕ, zero, suc, ◌+◌, ◌-◌, ◌*◌, ◌<◌}
 use mathlib.Core.Path.{◌≡◌, refl, ap, sym, subst, ◌∙◌}
 use mathlib.Core.Bool.{true, false}
 use mathlib.Core.List.{List}
-use mathlib.Core.Logic.{⊎_elim}
 use native.Mathlib.Omega.{arith}
-use native.Mathlib.Nat.{eq-or-lt_of_le}
 use native.Mathlib.Numerals.{add-one}
-use lib.ListN.{get_or, set}
+use lib.ListN.{get_or, length, set}
 use lib.Seq.{get_or-set_other}
+use Rattle.base.proofs.StoreLaws.{read_after}
 use Rattle.sheet.specs.declared.Flow.{Flow}
-use Rattle.sheet.specs.declared.Overhauls.{Overhauls}
+use Rattle.steps.specs.declared.Units.{Units}
 use Rattle.steps.specs.Step.{plain, in_service, repeated}
 use Rattle.steps.specs.Payment.{rounded, once}
 use Rattle.steps.specs.Fit.{PlainFits}
@@ -21,7 +20,27 @@ use Rattle.steps.proofs.RoomLaws.{plains_fit}
 use Rattle.costing.specs.Arc.{keeps_motors, since_of, in_year}
 use Rattle.costing.proofs.WalkLaws.{in_year_new}
 use Rattle.costing.proofs.SheetArcLaws.{since_kept, since_new}
-use Rattle.streams.specs.Streams.{Stream, once_in, start_in, Left, Filled, part, OverhaulStreams}
+use Rattle.streams.specs.Streams.{Stream, once_in, start_in, Left, Reached, Stepped, Filled, part}
+
+module _ (Makes : Units → Units → Type 0) (first : Units) where
+  -- one value more is written
+  pub reached_next :
+      (at n : ℕ) (s : List ℕ) (v : Units) → at + n < length s → Reached Makes first n v
+      → ((y : ℕ) → y < n → Reached Makes first y (record { 0 = get_or s (at + y) 0 })) → (y : ℕ) → y < n + 1
+      → Reached Makes first y (record { 0 = get_or (set s (at + n) v.0) (at + y) 0 })
+  reached_next at n s v room now before y l =
+      read_after (λ (x : ℕ). Reached Makes first y (record { 0 = x })) s (at + n) v.0 (at + y) room
+      (λ q. let same : n ≡ y = omega arith in subst (λ (k : ℕ). Reached Makes first k v) same now)
+      (λ d. before y (omega (arith, λ (e : y ≡ n). d (omega arith))))
+
+  -- where the first value is that of year 0 of a figure, and each step gives that of the next year, so is what the steps make
+  module _ (figure : ℕ → ℕ) (zero_is : first.0 ≡ figure 0) (next_is : (y : ℕ) (u v : Units) → u.0 ≡ figure y → Makes u v → v.0 ≡ figure (y + 1)) where
+    pub reached_figure : (y : ℕ) (v : Units) → Reached Makes first y v → v.0 ≡ figure y
+    reached_figure zero v e = ap (λ (u : Units). u.0) e ∙ zero_is
+    reached_figure (suc n) v (u, r, m) = next_is n u v (reached_figure n u r) m ∙ ap figure (add-one n)
+
+    pub filled_by : (at last : ℕ) (old new : List ℕ) → Stepped Makes first at last old new → Filled at figure last old new
+    filled_by at last old new h = record { stream = λ y l. reached_figure y _ (h.stream y l); left = h.left }
 
 module _ (discount amount grow : ℕ) where
   pub once-zero : amount * 10_000 ≡ rounded discount (once amount grow 0)
@@ -75,32 +94,3 @@ power_same w last s p q h y l = h y l ∙ (λ i. start_in (p i) w (since_of (q i
 -- a place before the one that is written is left
 pub left_next : (s old : List ℕ) (at y v : ℕ) → Left at old s → Left at old (set s (at + y) v)
 left_next s old at y v h k l = get_or-set_other s (at + y) k v 0 (λ q. omega arith) ∙ h k l
-
-pub left_through : (a b c : List ℕ) (m n : ℕ) → m ≤ n → Left m a b → Left n b c → Left m a c
-left_through a b c m n l p q k h = q k (omega arith) ∙ p k h
-
--- a stream that ends before what is written
-pub stream_stays :
-    (at end : ℕ) (value : ℕ → ℕ) (last : ℕ) (old new : List ℕ) → at + last < end → Left end old new → Stream at value last old
-    → Stream at value last new
-stream_stays at end value last old new h left s y l = left (at + y) (omega arith) ∙ s y l
-
--- the streams of overhauls that end before what is written
-pub streams_stay :
-    (discount : ℕ) (o : Overhauls) (n last : ℕ) (old new : List ℕ) → last ≤ 300 → n ≤ 8 → Left (part 11) old new
-    → OverhaulStreams discount o n last old → OverhaulStreams discount o n last new
-streams_stay discount o n last old new short few left s j l =
-    stream_stays (part (3 + j)) (part 11) (once_in discount (get_or o.amounts j 0) o.grow) last old new (omega arith) left (s j l)
-
--- one overhaul's stream more: those of the overhauls before it end before it
-pub streams_next :
-    (discount : ℕ) (o : Overhauls) (j last : ℕ) (old new : List ℕ) → last ≤ 300 → OverhaulStreams discount o j last old
-    → Stream (part (3 + j)) (once_in discount (get_or o.amounts j 0) o.grow) last new → Left (part (3 + j)) old new
-    → OverhaulStreams discount o (j + 1) last new
-streams_next discount o j last old new short before here left k h =
-    ⊎_elim
-    (λ (q : k ≡ j).
-    subst (λ (k : ℕ). Stream (part (3 + k)) (once_in discount (get_or o.amounts k 0) o.grow) last new) (sym q) here)
-    (λ (l : k < j).
-    stream_stays (part (3 + k)) (part (3 + j)) (once_in discount (get_or o.amounts k 0) o.grow) last old new (omega arith) left (before k l))
-    (eq-or-lt_of_le (omega arith))

@@ -1,13 +1,14 @@
 -- Streams: the values of an option's amounts in the years 0 to `last`, in one list of twelve parts of 301 years each. Part 0 is the
 -- investment, part 1 maintenance, part 2 electricity as an arc from that year finds it, part 3 + j the j-th overhaul, from 0, and part 11 removal.
 -- Definitions only.
-use Rattle.std.specs.Prelude.{ℕ, ◌+◌, ◌*◌, ◌≤◌, ◌<◌, ◌≡◌, List, get_or, length}
+use Rattle.std.specs.Prelude.{ℕ, zero, suc, ◌+◌, ◌*◌, ◌≤◌, ◌<◌, ◌≡◌, List, get_or, length}
 use Rattle.sheet.specs.Layout.{year_places}
 use Rattle.sheet.specs.Parsed.{no_terms}
 use Rattle.sheet.specs.declared.Flow.{Flow}
 use Rattle.sheet.specs.declared.Overhauls.{Overhauls}
 use Rattle.sheet.specs.declared.Sheet.{Sheet}
 use Rattle.sheet.specs.declared.Terms.{Terms}
+use Rattle.steps.specs.declared.Units.{Units}
 use Rattle.steps.specs.Payment.{rounded, once}
 use Rattle.costing.specs.Arc.{kept_of, in_year, electricity, age_of}
 use Rattle.costing.specs.declared.Kept.{Kept}
@@ -30,6 +31,16 @@ Left at old new = (k : ℕ) → k < at → get_or new k 0 ≡ get_or old k 0
 -- what filling one stream gives
 pub record Filled (at : ℕ) (value : ℕ → ℕ) (last : ℕ) (old new : List ℕ) : Type 0 where
   pub stream : Stream at value last new
+  pub left : Left at old new
+
+-- what a number of steps may make of a first value, by what a step may make of one
+abbrev pub Reached : (Makes : Units → Units → Type 0) (first : Units) (steps : ℕ) → Units → Type 0
+Reached Makes first zero v = v ≡ first
+Reached Makes first (suc n) v = (u : Units) × Reached Makes first n u × Makes u v
+
+-- what filling one stream by steps gives: y places on stands what y steps may make
+pub record Stepped (Makes : Units → Units → Type 0) (first : Units) (at last : ℕ) (old new : List ℕ) : Type 0 where
+  pub stream : (y : ℕ) → y ≤ last → Reached Makes first y (record { 0 = get_or new (at + y) 0 })
   pub left : Left at old new
 
 -- where a part begins

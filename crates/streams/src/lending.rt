@@ -16,6 +16,5 @@ pub fn lend(streams: &mut [u64], sheet: Sheet, discount: Divisor, option: u64) -
 {
     let terms = sheet.options[option as usize];
     crate::fill(streams, terms, option, discount, sheet.horizon);
-    let overhauls = terms.overhauls;
-    overhauls.ages
+    terms.overhauls.ages
 }

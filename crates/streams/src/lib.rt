@@ -89,14 +89,11 @@ pub fn due(streams: &[u64], ages: &[u64; 8], kept: Kept, last: u64, next: usize,
     ensures units { result.units.0 ≡ worth kept (overhauls_at kept n) }
     ensures next { Falls kept (n + 1) result.next }
 {
-    let terms = kept.terms;
-    let overhauls = terms.overhauls;
-    let count = overhauls.count as usize;
+    let count = kept.terms.overhauls.count as usize;
     if next < count {
         if ages[next] == n {
             let year = kept.from + n;
-            let place = (3 + next) * YEARS + year as usize;
-            let value = streams[place];
+            let value = streams[(3 + next) * YEARS + year as usize];
             let after = next + 1;
             return Fallen {
                 units: Units(value),
@@ -106,6 +103,6 @@ pub fn due(streams: &[u64], ages: &[u64; 8], kept: Kept, last: u64, next: usize,
     }
     Fallen {
         units: Units(0),
-        next: next,
+        next,
     }
 }

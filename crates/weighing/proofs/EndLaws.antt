@@ -1,10 +1,12 @@
--- The ends of an option that is kept, on its terms: which the code weighs (`end_test`, `ends_all`), how many (`ends_counted`, `end_counted`,
--- `counted_le`), what the arc to an end costs (`end_cost`, `end_paid`), and that its sum with a word leaves room (`end_room`). Assumes nothing.
-use Prim.Native.Nat.{ℕ, ◌+◌, ◌-◌, ◌*◌, ◌≤◌, ◌<◌, min}
-use mathlib.Core.Path.{◌≡◌, ap, sym, ◌∙◌}
+-- The ends of an option that is kept, on its terms: which the code weighs (`end_test`, `end_next`, `ends_all`), how many (`ends_counted`, `end_counted`,
+-- `counted_le`), what the arc to an end costs (`end_cost`, `end_paid`), and that its sum with a word leaves room (`end_room`, `end_fits`). Assumes nothing.
+use Prim.Native.Nat.{ℕ, ◌+◌, ◌-◌, ◌*◌, ◌^◌, ◌≤◌, ◌<◌, min}
+use mathlib.Core.Path.{◌≡◌, refl, ap, sym, ◌∙◌}
 use mathlib.Core.Bool.{Bool, true, false, cond, and-true, and-false}
+use mathlib.Core.List.{List}
 use native.Mathlib.Omega.{arith}
 use lib.Dec.{leb}
+use lib.ListN.{get_or}
 use borrow.Author.Tests.{le-leb, lt-leb}
 use Rattle.base.proofs.TallyLaws.{sum_next, sum_past, sum-le}
 use Rattle.steps.specs.Fit.{largest_payment}
@@ -15,9 +17,10 @@ use Rattle.costing.specs.declared.Kept.{Kept}
 use Rattle.costing.specs.declared.Walk.{Walk}
 use Rattle.costing.proofs.SizeLaws.{paid-le}
 use Rattle.costing.proofs.WalkLaws.{walk-paid}
-use Rattle.choice.proofs.RunningLaws.{over_past}
+use Rattle.choice.specs.Running.{no_total, weigh}
+use Rattle.choice.proofs.RunningLaws.{over_next, over_past}
 use Rattle.weighing.specs.Best.{numbers}
-use Rattle.weighing.specs.Ends.{may_end, kept_cost, best_after, best_to, weighed_after, weighed_to}
+use Rattle.weighing.specs.Ends.{may_end, kept_cost, best_after, best_to, weighed_after, weighed_to, word_of, WordsBehind}
 use Rattle.weighing.specs.declared.Best.{Best}
 
 one_le : (flag : Bool) → cond flag 1 0 ≤ 1
@@ -39,6 +42,15 @@ module _ (a : Kept) where
   -- a walk of n + 1 years has paid it
   pub end_paid : (w : Walk) (n : ℕ) → w ≡ walk_at a (n + 1) → w.cost.0 ≡ kept_cost a (a.from + (n + 1))
   end_paid w n stands = end_cost n (walk-paid a w (n + 1) stands (omega arith))
+
+  -- one end more is weighed
+  pub end_next :
+      (words : ℕ → ℕ) (best so_far : Best) (n : ℕ) → so_far ≡ best_after a words best n → n < a.terms.longest → {cost end word : ℕ}
+      → end ≡ a.from + (n + 1) → cost ≡ kept_cost a (a.from + (n + 1)) → word ≡ words end
+      → cond (leb a.terms.shortest (n + 1)) (weigh numbers so_far cost end word) so_far ≡ best_after a words best (n + 1)
+  end_next words best so_far n before lives {cost} {end} {word} at paid there =
+      over_next numbers (may_end a) (kept_cost a) words (a.from + 1) best n end before (omega arith)
+      (end_test n refl lives ∙ ap (may_end a) (sym at)) (paid ∙ ap (kept_cost a) (sym at)) there
 
   -- an end later than the longest life is not offered
   end_past : (e : ℕ) → a.terms.longest < e - a.from → may_end a e ≡ false
@@ -78,3 +90,14 @@ module _ (a : Kept) where
   end_room h T e short late inside fits =
       let paid = paid-le a h (e - a.from) (omega arith) in
       omega arith
+
+  -- so their sum is a word
+  pub end_fits :
+      KeptFits a → (T n : ℕ) (words : List ℕ) → WordsBehind a T words → a.from + (n + 1) ≤ T → {cost end : ℕ} → cost ≡ kept_cost a (a.from + (n + 1))
+      → end ≡ a.from + (n + 1) → (get_or words end 0 ≡ no_total → ⊥) → cost + get_or words end 0 < 2 ^ 64
+  end_fits h T n words behind inside paid at some =
+      let e = a.from + (n + 1) in
+      let word = ap (word_of words) at in
+      let fits = behind.fits e (omega arith) inside (λ (q : word_of words e ≡ no_total). some (word ∙ q)) in
+      let room = end_room h T e behind.far (omega arith) inside fits in
+      omega (arith, paid, word, room, behind.far)

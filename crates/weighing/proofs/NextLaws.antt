@@ -1,7 +1,7 @@
 -- The choice of an end by passing over those that are not better: before the shortest life none is offered (`next_first`), ends that are passed
 -- change nothing (`next_stays`), and the one that is found is taken (`next_taken`), by the sum that the code reads (`sum_read`). Those that are
 -- passed and the one that is taken are counted alike (`counted_first`, `counted_on`). Assumes nothing.
-use Prim.Native.Nat.{ℕ, ◌+◌, ◌-◌, ◌≤◌, ◌<◌}
+use Prim.Native.Nat.{ℕ, ◌+◌, ◌-◌, ◌^◌, ◌≤◌, ◌<◌}
 use mathlib.Core.Path.{◌≡◌, refl, ap, sym, subst, ◌∙◌}
 use mathlib.Core.Bool.{true, false, cond}
 use mathlib.Core.List.{List}
@@ -14,19 +14,27 @@ use Rattle.costing.specs.declared.Kept.{Kept}
 use Rattle.choice.specs.Running.{no_total}
 use Rattle.choice.proofs.RunningLaws.{weigh-take, over_zero, over_next, over_past, over_stays}
 use Rattle.weighing.specs.Best.{numbers}
-use Rattle.weighing.specs.Ends.{may_end, kept_cost, best_after, weighed_after, CostsTo, word_of, AtMost, NextEnd}
+use Rattle.weighing.specs.Ends.{may_end, kept_cost, best_after, weighed_after, CostsTo, word_of, WordsBehind, CostsKnown, AtMost, NextEnd}
 use Rattle.weighing.specs.declared.Best.{Best}
-use Rattle.weighing.proofs.EndLaws.{end_test, end_cost}
+use Rattle.weighing.proofs.EndLaws.{end_test, end_cost, end_fits}
 
 module _ (a : Kept) where
   -- what the code adds: the cost of the arc of n + 1 years and the word behind its end
-  pub sum_read :
-      (words costs : List ℕ) (T n : ℕ) → CostsTo a T costs → n < a.terms.longest → a.from + n < T
-      → get_or costs n 0 + get_or words (a.from + n + 1) 0 ≡ kept_cost a (a.from + (n + 1)) + word_of words (a.from + (n + 1))
-  sum_read words costs T n known lives inside =
-      let cost = end_cost a n (known n lives inside) in
-      let word = ap (word_of words) {x = a.from + n + 1} {y = a.from + (n + 1)} (omega arith) in
-      λ i. cost i + word i
+  module _ (words costs : List ℕ) (T n : ℕ) (lives : n < a.terms.longest) (inside : a.from + n < T) where
+    pub sum_read :
+        (end : ℕ) → end ≡ a.from + (n + 1) → CostsTo a T costs
+        → get_or costs n 0 + get_or words end 0 ≡ kept_cost a (a.from + (n + 1)) + word_of words (a.from + (n + 1))
+    sum_read end at known =
+        let cost = end_cost a n (known n lives inside) in
+        let word = ap (word_of words) at in
+        λ i. cost i + word i
+
+    -- it leaves room, where there is a word
+    pub sum_fits :
+        (end : ℕ) → end ≡ a.from + (n + 1) → CostsKnown a T costs → WordsBehind a T words → (get_or words end 0 ≡ no_total → ⊥)
+        → get_or costs n 0 + get_or words end 0 < 2 ^ 64
+    sum_fits end at known behind some =
+        end_fits a known.fits T n words behind (omega arith) (end_cost a n (known.known n lives inside)) at some
 
   end_too_early : (e : ℕ) → e - a.from < a.terms.shortest → may_end a e ≡ false
   end_too_early e l = rw (lt-leb a.terms.shortest (e - a.from) l)
@@ -67,13 +75,14 @@ module _ (a : Kept) where
         (next.passed n (omega arith) (omega (arith, next.from))))
         ∙ ap (best_after a words best) all
 
+    -- the end that was found is taken, by that sum
     pub next_taken :
         (so_far : Best) (n : ℕ) → so_far ≡ best_after a words best n → AtMost a words so_far.total n → a.terms.shortest ≤ n + 1
-        → n < a.terms.longest
-        → record { total = kept_cost a (a.from + (n + 1)) + words (a.from + (n + 1)); end = a.from + (n + 1) }
-        ≡ best_after a words best (n + 1)
-    next_taken so_far n before least old lives =
+        → n < a.terms.longest → {sum end : ℕ} → end ≡ a.from + (n + 1)
+        → sum ≡ kept_cost a (a.from + (n + 1)) + words (a.from + (n + 1)) → record { total = sum; end = end } ≡ best_after a words best (n + 1)
+    next_taken so_far n before least old lives at both =
         let e = a.from + (n + 1) in
         let on = sym (le-leb a.terms.shortest (n + 1) old) ∙ end_test a n refl lives in
-        sym (weigh-take numbers so_far (kept_cost a e) e (words e) least.0 least.1)
+        (λ i. record { total = both i; end = at i })
+        ∙ sym (weigh-take numbers so_far (kept_cost a e) e (words e) least.0 least.1)
         ∙ over_next numbers (may_end a) (kept_cost a) words (a.from + 1) best n e {flag = true} before (omega arith) on refl refl

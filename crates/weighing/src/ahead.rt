@@ -10,6 +10,7 @@ ghost use Rattle.weighing.specs.Ahead.{ahead_of, LooksAhead};
 use crate::NONE;
 
 // A total, if there is one, and more.
+#[tactic(auto, unfolding(crate::specs::Ahead::ahead_of))]
 fn plus(total: u64, more: u64) -> u64
     requires { (total ≡ no_total → ⊥) → total + more < 2 ^ 64 }
     ensures { result ≡ ahead_of total more }

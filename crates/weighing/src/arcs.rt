@@ -32,8 +32,7 @@ pub fn two_starts(
     let mut walk = streams::open(streams, kept, streams::power(streams, kept), last);
     let mut beside = streams::open(streams, other, streams::power(streams, other), last);
     let mut next: usize = 0;
-    let mut n: u64 = 0;
-    while n < years {
+    for n in 0..years {
         let due = streams::due(streams, ages, kept, last, next, n);
         let also = streams::due(streams, ages, other, last, next, n);
         walk = walk.year(kept, discount, due.units);
@@ -41,6 +40,5 @@ pub fn two_starts(
         next = due.next;
         earlier[n as usize] = walk.cost.0;
         later[n as usize] = beside.cost.0;
-        n += 1;
     }
 }

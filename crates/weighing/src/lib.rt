@@ -3,12 +3,11 @@
 
 #![tactic(auto)]
 
-ghost use Rattle.std.specs.Prelude.{◌≡◌, ◌+◌, ◌-◌, ◌^◌, ◌<◌, ◌≤◌, cond};
+ghost use Rattle.std.specs.Prelude.{◌≡◌, ◌+◌, ◌-◌, ◌^◌, ◌<◌, ◌≤◌, cond, unwrap_or, IfSome};
 ghost use Rattle.choice.specs.Running.{no_total, weigh};
 ghost use Rattle.weighing.specs.Best.{numbers};
 ghost use Rattle.weighing.specs.Ends.{Walks, best_to, word_of, WordsBehind, CostsKnown, NextEnd};
 
-use base::order;
 use costing::Kept;
 use division::Divisor;
 use steps::Units;
@@ -23,7 +22,7 @@ pub struct Best {
     pub end: u64,
 }
 
-// No total: no list leads to the horizon.
+// No total: no list leads to the horizon. A number and no Option, since the words that C lends hold it.
 pub const NONE: u64 = 18_446_744_073_709_551_615;
 
 // Nothing is chosen yet.
@@ -33,6 +32,7 @@ pub const NOTHING: Best = Best {
 };
 
 // The better of the choice so far and an arc to year end, if that is offered, with a total behind it: of equal totals the later end.
+#[tactic(auto, unfolding(choice::specs::Running::weigh))]
 pub fn weigh(offered: bool, best: Best, cost: Units, end: u64, behind: u64) -> Best
     requires { (behind ≡ no_total → ⊥) → cost.0 + behind < 2 ^ 64 }
     ensures { result ≡ cond offered (weigh numbers best cost.0 end behind) best }
@@ -46,10 +46,7 @@ pub fn weigh(offered: bool, best: Best, cost: Units, end: u64, behind: u64) -> B
     let units = cost.0;
     let total = units + behind;
     if total <= best.total {
-        return Best {
-            total: total,
-            end: end,
-        };
+        return Best { total, end };
     }
     best
 }
@@ -68,26 +65,27 @@ pub fn best_end(
     ensures { result ≡ best_to kept horizon (word_of words.now) best }
 {
     let from = kept.from;
-    let terms = kept.terms;
-    let shortest = terms.shortest;
-    let top = order::smaller(terms.longest, horizon - from);
+    let top = kept.terms.longest.min(horizon - from);
     let mut chosen = best;
     let mut walk = streams::open(streams, kept, streams::power(streams, kept), horizon);
     let mut next: usize = 0;
-    let mut n: u64 = 0;
-    while n < top {
+    for n in 0..top {
         let due = streams::due(streams, ages, kept, horizon, next, n);
         walk = walk.year(kept, discount, due.units);
         next = due.next;
-        n += 1;
-        let end = from + n;
-        chosen = weigh(shortest <= n, chosen, walk.cost, end, words[end as usize]);
+        let end = from + n + 1;
+        chosen = weigh(
+            kept.terms.shortest <= n + 1,
+            chosen,
+            walk.cost,
+            end,
+            words[end as usize],
+        );
     }
     chosen
 }
 
-// The first n from one place up to another for which the arc of n + 1 years, with the total behind its end, is at most a total; the other
-// place if there is none.
+// The first n from one place up to another for which the arc of n + 1 years, with the total behind its end, is at most a total.
 fn next_end(
     words: &[u64],
     costs: &[u64],
@@ -96,22 +94,20 @@ fn next_end(
     first: u64,
     until: u64,
     total: u64,
-) -> u64
+) -> Option<u64>
     requires costs_known { CostsKnown kept horizon costs.now × WordsBehind kept horizon words.now }
     requires first_le_until { (first ≤ until) × (until ≤ kept.terms.longest) × (kept.from + until ≤ horizon) }
-    ensures { NextEnd kept (word_of words.now) first until total result }
+    ensures { NextEnd kept (word_of words.now) first until total (unwrap_or result until) × IfSome result (λ n. n < until) }
 {
-    let mut n = first;
-    while n < until {
+    for n in first..until {
         let behind = words[(kept.from + n + 1) as usize];
         if behind != NONE {
             if costs[n as usize] + behind <= total {
-                return n;
+                return Some(n);
             }
         }
-        n += 1;
     }
-    n
+    None
 }
 
 // The choice that `best_end` makes, by what the arcs cost. Ends that are not better are passed over.
@@ -119,19 +115,16 @@ pub fn best_of(words: &[u64], costs: &[u64], kept: Kept, horizon: u64, best: Bes
     requires { CostsKnown kept horizon costs.now × WordsBehind kept horizon words.now }
     ensures { result ≡ best_to kept horizon (word_of words.now) best }
 {
-    let terms = kept.terms;
-    let years = order::smaller(terms.longest, horizon - kept.from);
-    let first = order::smaller(order::one_less(terms.shortest), years);
+    let years = kept.terms.longest.min(horizon - kept.from);
+    let mut first = kept.terms.shortest.saturating_sub(1).min(years);
     let mut chosen = best;
-    let mut n = next_end(words, costs, kept, horizon, first, years, chosen.total);
-    while n < years {
+    while let Some(n) = next_end(words, costs, kept, horizon, first, years, chosen.total) {
         let end = kept.from + n + 1;
-        let total = costs[n as usize] + words[end as usize];
         chosen = Best {
-            total: total,
-            end: end,
+            total: costs[n as usize] + words[end as usize],
+            end,
         };
-        n = next_end(words, costs, kept, horizon, n + 1, years, total);
+        first = n + 1;
     }
     chosen
 }

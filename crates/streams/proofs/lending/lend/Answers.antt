@@ -19,12 +19,3 @@ returns c =
       refl,
       power_same terms.electricity c.args.sheet.horizon filled.new.streams number (omega arith) filled.ensures.power,
     )
-
-pub fill-requires : goal.fill-requires
-fill-requires c =
-    let fit = c.requires.fit.0 in
-    let d = c.requires.fit.1 in record {
-      divisor_ready = (d.ready, omega (arith, d.number, fit.discount_low), omega (arith, d.number, fit.discount_high));
-      terms_fit = rw d.number (fit.options c.args.option no_terms (omega (arith, c.requires.option_bound.0)));
-      last_bound = (fit.horizon_high, c.requires.option_bound.1);
-    }
