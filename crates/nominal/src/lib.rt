@@ -48,7 +48,7 @@ impl Cents {
         ensures { result.0 ≡ repeated years (nominal_plain general grow) self.0 }
     {
         let mut now = self;
-        for k in 0..years {
+        for _ in 0..years {
             now = now.plain(general, grow);
         }
         now

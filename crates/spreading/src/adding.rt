@@ -57,7 +57,7 @@ fn running<L: Ledger>(ledger: L, flow: Flow, since: u64, year: u64) -> L::Amount
     ensures { L.number result ≡ L.figure ledger (in_year flow since year 0) }
 {
     let mut amount = ledger.paid_once(flow.amount, flow.grow, since);
-    for y in since..year {
+    for _ in since..year {
         amount = ledger.in_service(flow, amount);
     }
     amount

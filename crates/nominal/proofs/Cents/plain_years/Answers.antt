@@ -11,6 +11,6 @@ plain-now-requires c =
     record {
       inflation = fits.inflation;
       grown = fits.grown;
-      room = rw c.loop-k.invariant.1
-          (most_room c.loop-k.k _ (omega arith) (plains_most _ _ fits.inflation fits.grown c.loop-k.k _ h.1));
+      room = rw c.loop.invariant.1
+          (most_room c.loop.counter _ (omega arith) (plains_most _ _ fits.inflation fits.grown c.loop.counter _ h.1));
     }

@@ -14,13 +14,13 @@ paid_once-amount-requires g c =
 pub in_service-amount-requires : goal.in_service-amount-requires
 in_service-amount-requires g c =
     let a = c.args in
-    let l = c.loop-y in
+    let l = c.loop in
     record {
       since = a.since;
-      year = l.y;
+      year = l.counter;
       old = l.invariant.since;
       early = omega (arith, l.invariant.by, c.requires.2);
-      payable = year_payable (g.L.Ledger.ready a.ledger) a.flow a.since l.y 0 c.requires.0;
-      next = g.met.L.Ledger.earlier a.ledger (l.y + 1) a.year (omega (arith, c.loop-y-test.true)) c.requires.3;
+      payable = year_payable (g.L.Ledger.ready a.ledger) a.flow a.since l.counter 0 c.requires.0;
+      next = g.met.L.Ledger.earlier a.ledger (l.counter + 1) a.year (omega (arith, c.loop-test.true)) c.requires.3;
       stands = l.invariant.stands;
     }
