@@ -1,8 +1,8 @@
--- What the loops over a chain do to the words. An arc of a sheet (`arc_read`, `units-below`, `cents-below`); one replacement more
--- and none, where `end` is the next end that stands in the plan (`falls_next`, `falls_none`); the chain in a plan (`chain_raised`); and all words, of
--- units and of cents (`units_written`, `cents_written`). Assumes nothing.
+-- What the loops over a chain do to the words. An arc of a sheet (`arc_read`, `arc-room`); one replacement more and none, where `end` is the next
+-- end that stands in the plan (`ends_first`, `climbs_more`, `falls_next`, `falls_none`); the chain in a plan (`chain_raised`); and all words, of units
+-- and of cents (`units_written`, `cents_written`). Assumes nothing.
 use Prim.Native.Nat.{ℕ, suc, ◌+◌, ◌-◌, ◌*◌, ◌≤◌, ◌<◌}
-use mathlib.Core.Path.{◌≡◌, refl, ap, ◌∙◌}
+use mathlib.Core.Path.{◌≡◌, refl, ap, subst, ◌∙◌}
 use mathlib.Core.List.{List, ◌++◌}
 use mathlib.Core.Bool.{Bool}
 use native.Mathlib.Omega.{arith}
@@ -21,18 +21,19 @@ use Rattle.steps.specs.Payment.{Payment, rounded}
 use Rattle.costing.specs.Arc.{pays_removal, kept_of, arc_of, paid, closing, payments}
 use Rattle.costing.specs.Fit.{yearly, Small}
 use Rattle.costing.specs.declared.Kept.{Kept}
-use Rattle.costing.proofs.SizeLaws.{whole_most, units_small}
+use Rattle.costing.proofs.SizeLaws.{whole_most}
 use Rattle.costing.proofs.SheetArcLaws.{kept_of_fits, kept_read}
 use Rattle.chain.specs.Chain.{replacements, activities, arcs_of, arcs, Feasible}
 use Rattle.chain.specs.PlanBytes.{count_field, ends_at, decode}
+use Rattle.chain.specs.Ordered.{Climbs}
 use Rattle.chain.proofs.PlanBytesLaws.{ends_next, ends_none}
+use Rattle.pricing.proofs.EndsLaws.{climbs_next}
 use Rattle.nominal.specs.Nominal.{cents}
 use Rattle.spreading.specs.Fallen.{falling, fallen}
-use Rattle.spreading.specs.Raised.{up_to, in_money, Raised}
-use Rattle.spreading.specs.Asks.{Below, MoneyFits}
-use Rattle.spreading.specs.declared.Money.{Money}
-use Rattle.spreading.proofs.RaisedLaws.{below_raised, fallen_behind, fallen-up_to, fallen_past}
-use Rattle.spreading.proofs.SizeLaws.{cents_small}
+use Rattle.spreading.specs.Raised.{up_to, Raised}
+use Rattle.spreading.specs.Asks.{Room}
+use Rattle.spreading.proofs.RaisedLaws.{fallen_behind, fallen-up_to, fallen_past}
+use Rattle.spreading.proofs.SizeLaws.{room_after}
 use Rattle.budget.specs.Budget.{payments_of, units_in, units_of, cents_in, last_in_cents, cents_of}
 use Rattle.budget.proofs.AddsLaws.{chain_by}
 
@@ -46,51 +47,60 @@ module _ (s : Sheet) (option start end : ℕ) (known : option ≤ 2) (k : Kept) 
   abbrev added : List Payment
   added = paid_by k removed s.horizon
 
-  -- a figure that may go by the option's terms, as units go by its discount factor
-  pub arc_read :
-      (ψ : Kept → Payment → ℕ) (p : PlanningSheet) → s ≡ parsed p → Raised (ψ k) old new added
-      → Raised (ψ (arc_of p option start end).kept) old new (payments (arc_of p option start end))
-  unfolding payments arc_of
-  arc_read ψ p read h y =
-      let kept = made ∙ kept_read p option start end s read known in
-      let T = horizon_read s p read in
-      h y ∙ (λ i. get_or old y 0 + fallen (ψ (kept i)) y (paid_by (kept i) (pays i) (T i)))
+  module _ (φ : Payment → ℕ) (h : Raised φ old new added) where
+    pub arc_read : (p : PlanningSheet) → s ≡ parsed p → Raised φ old new (payments (arc_of p option start end))
+    unfolding payments arc_of
+    arc_read p read y =
+        let kept = made ∙ kept_read p option start end s read known in
+        let T = horizon_read s p read in
+        h y ∙ (λ i. get_or old y 0 + fallen φ y (paid_by (kept i) (pays i) (T i)))
 
-  -- a year adds at most `yearly` to a word
-  module _ (fit : Fit s) (forward : start ≤ end) (inside : end ≤ s.horizon) (last : ℕ) (room : Below last (start * yearly) old) where
-    added_most : (φ : Payment → ℕ) → Small φ (kept_of s option start) (end - start) → sum_of φ added ≤ (end - start) * yearly
-    added_most φ small =
+    -- a year adds at most `yearly` to a word
+    pub arc-room :
+        Fit s → start ≤ end → end ≤ s.horizon → Small φ k (end - start) → (counts : ℕ → Bool) → Room counts old s.horizon (start * yearly)
+        → length new ≡ length old → Room counts new s.horizon (end * yearly)
+    arc-room fit forward inside small counts room same =
         let fits = kept_of_fits s fit option start known (omega arith) in
-        rw (made, sum_of-append φ (paid (kept_of s option start) (end - start)) _)
-        (whole_most φ (kept_of s option start) fits removed (end - start) s.horizon small)
+        let most : sum_of φ added ≤ (end - start) * yearly =
+        rw (sum_of-append φ (paid k (end - start)) _) (whole_most φ k (rw made fits) removed (end - start) s.horizon small) in
+        room_after φ counts s.horizon (start * yearly) ((end - start) * yearly) (end * yearly) old new added room same h most (omega arith)
 
-    figure_below : (φ : Payment → ℕ) → Small φ (kept_of s option start) (end - start) → Raised φ old new added → Below last (end * yearly) new
-    figure_below φ small h y early =
-        omega (arith, below_raised φ last (start * yearly) ((end - start) * yearly) old new added room h (added_most φ small) y early)
+-- the ends that stand in a plan behind the first k, of which there are so many
+abbrev pub ends_behind : (plan : List ℕ) (count k : ℕ) → List ℕ
+ends_behind plan count k = ends_at plan (19 + 2 * k) (count - k)
 
-    pub units-below : Raised (rounded k.discount) old new added → Below last (end * yearly) new
-    units-below h =
-        let fits = kept_of_fits s fit option start known (omega arith) in
-        figure_below (rounded k.discount) (rw made (units_small (kept_of s option start) fits (end - start) (omega (arith, fit.horizon_high)))) h
+module _ (plan : List ℕ) (count : ℕ) where
+  pub ends_first : ends_behind plan count 0 ≡ ends_at plan 19 count
+  ends_first = let e : count - 0 ≡ count = omega arith in rw e refl
 
-    pub cents-below : (m : Money) → MoneyFits m → Raised (in_money m) old new added → Below last (end * yearly) new
-    cents-below m counts h =
-        figure_below (in_money m) (cents_small m counts (kept_of s option start) (kept_of_fits s fit option start known (omega arith)) (end - start)) h
+  module _ (k : ℕ) (l : k < count) {end : ℕ} (read : end ≡ u16_at plan (19 + 2 * k)) where
+    ends_more : ends_at plan (19 + 2 * k + 2) (count - k - 1) ≡ ends_behind plan count (k + 1)
+    ends_more =
+        let e : 19 + 2 * (k + 1) ≡ 19 + 2 * k + 2 = omega arith in
+        let f : count - (k + 1) ≡ count - k - 1 = omega arith in
+        rw (e, f) refl
+
+    pub climbs_more : (T y : ℕ) → Climbs T y (ends_behind plan count k) → (y < end) × Climbs T end (ends_behind plan count (k + 1))
+    climbs_more T y h =
+        let n = climbs_next plan (19 + 2 * k) (count - k) (omega arith) read T y h in
+        (n.0, subst (Climbs T end) ends_more n.1)
 
 module _ (φ : Payment → ℕ) (p : PlanningSheet) (y : ℕ) where
-  -- one replacement more, and none
-  pub falls_next :
-      (plan : List ℕ) (at left : ℕ) → 0 < left → {end : ℕ} → end ≡ u16_at plan at → (start : ℕ)
-      → fallen φ y (payments_of (arcs_of p (replacements start (ends_at plan at left))))
-      ≡ fallen φ y (payments (arc_of p replace start end)) + fallen φ y (payments_of (arcs_of p (replacements end (ends_at plan (at + 2) (left - 1)))))
-  unfolding payments_of arcs_of replacements
-  falls_next plan at left more {end} read start =
-      rw (ends_next plan at left more, ← read)
-      (sum_of-append (falling φ y) (payments (arc_of p replace start end)) (payments_of (arcs_of p (replacements end (ends_at plan (at + 2) (left - 1))))))
+  -- what falls of replacements whose ends stand in a plan behind the first k: one more, and none
+  abbrev pub falls : (plan : List ℕ) (count k start : ℕ) → ℕ
+  falls plan count k start = fallen φ y (payments_of (arcs_of p (replacements start (ends_behind plan count k))))
 
-  pub falls_none : (plan : List ℕ) (at start : ℕ) {left : ℕ} → left ≡ 0 → fallen φ y (payments_of (arcs_of p (replacements start (ends_at plan at left)))) ≡ 0
+  pub falls_next :
+      (plan : List ℕ) (count k : ℕ) (l : k < count) → {end : ℕ} (read : end ≡ u16_at plan (19 + 2 * k)) (start : ℕ)
+      → falls plan count k start ≡ fallen φ y (payments (arc_of p replace start end)) + falls plan count (k + 1) end
+  unfolding payments_of arcs_of replacements
+  falls_next plan count k l {end} read start =
+      rw (ends_next plan (19 + 2 * k) (count - k) (omega arith), ← read, ends_more plan count k l read)
+      (sum_of-append (falling φ y) (payments (arc_of p replace start end)) (payments_of (arcs_of p (replacements end (ends_behind plan count (k + 1))))))
+
+  pub falls_none : (plan : List ℕ) (count start : ℕ) → falls plan count count start ≡ 0
   unfolding sum_of payments_of arcs_of replacements
-  falls_none plan at start none = rw (none, ends_none plan at)
+  falls_none plan count start = let e : count - count ≡ 0 = omega arith in rw (e, ends_none plan (19 + 2 * count))
 
 -- maintaining, renovating and the replacements, where i, j and m are the numbers read from the plan
 pub chain_raised :

@@ -1,22 +1,18 @@
 -- What the code that fills both lists asks. Definitions only.
-use Rattle.std.specs.Prelude.{ℕ, ◌*◌, ◌≤◌, ◌<◌, List, length}
+use Rattle.std.specs.Prelude.{ℕ, ◌*◌, ◌≤◌, ◌<◌, Bool, List, length}
 use Rattle.sheet.specs.declared.Sheet.{Sheet}
 use Rattle.checking.specs.Fit.{Fit}
 use Rattle.costing.specs.Fit.{yearly}
 use Rattle.chain.specs.PlanBytes.{plan_size, count_field, decode}
 use Rattle.chain.specs.Ordered.{Ordered}
-use Rattle.spreading.specs.Asks.{Below, MoneyFits}
-use Rattle.spreading.specs.declared.Money.{Money}
+use Rattle.spreading.specs.Asks.{Room}
 use Rattle.budget.specs.Budget.{last_in_cents}
 
--- to add activities of a sheet from a year on: until then no word is more than the years before can have cost
-pub record ListsAsk (units cents : List ℕ) (sheet : Sheet) (money : Money) (start : ℕ) : Type 0 where
+-- to add activities of a sheet from a year on to a list, as a ledger counts it: until then no word is more than the years before can have cost
+pub record ListAsks (ready : ℕ → Type 0) (counts : ℕ → Bool) (words : List ℕ) (sheet : Sheet) (start : ℕ) : Type 0 where
   pub fit : Fit sheet
-  pub counts : MoneyFits money
-  pub units_long : sheet.horizon < length units
-  pub units_room : Below sheet.horizon (start * yearly) units
-  pub cents_long : money.last < length cents
-  pub cents_room : Below money.last (start * yearly) cents
+  pub suits : ready sheet.discount
+  pub room : Room counts words sheet.horizon (start * yearly)
 
 -- the chain in plan bytes: the bytes are there, and its years are in order
 pub record PlanAsks (plan : List ℕ) (horizon : ℕ) : Type 0 where

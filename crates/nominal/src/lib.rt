@@ -14,6 +14,7 @@ ghost use Rattle.nominal.specs.Fit.{most_cents, CentsFit};
 pub struct Cents(pub u64);
 
 // A rate, rounded up to a whole cent.
+#[tactic(auto, unfolding(crate::specs::Nominal::risen))]
 fn risen(a: u64, factor: u64) -> u64
     requires { (a ≤ 6_000_000_000_000) × (factor ≤ 1_300_000) }
     ensures { result ≡ risen factor a }
@@ -23,6 +24,7 @@ fn risen(a: u64, factor: u64) -> u64
 
 impl Cents {
     // One year forward: general inflation, then its own.
+    #[tactic(auto, unfolding(crate::specs::Nominal::nominal_plain))]
     fn plain(self, general: u64, grow: u64) -> Cents
         requires { CentsFit general grow self.0 }
         ensures { result.0 ≡ nominal_plain general grow self.0 }
@@ -31,6 +33,7 @@ impl Cents {
     }
 
     // One year forward in service: the ageing first.
+    #[tactic(auto, unfolding(crate::specs::Nominal::nominal_plain, crate::specs::Nominal::nominal_in_service))]
     pub fn in_service(self, general: u64, grow: u64, age: u64) -> Cents
         requires { CentsFit general grow self.0 × (age ≤ 1_300_000) }
         ensures { result.0 ≡ nominal_in_service general grow age self.0 }
@@ -39,12 +42,13 @@ impl Cents {
     }
 
     // That many years forward, from an amount of a sheet.
+    #[tactic(auto, unfolding(steps::specs::Step::repeated))]
     fn plain_years(self, general: u64, grow: u64, years: u64) -> Cents
         requires { CentsFit general grow self.0 × (self.0 ≤ most_cents 0) × (years ≤ last_nominal) }
         ensures { result.0 ≡ repeated years (nominal_plain general grow) self.0 }
     {
         let mut now = self;
-        for k in 0..years {
+        for _ in 0..years {
             now = now.plain(general, grow);
         }
         now
@@ -52,6 +56,7 @@ impl Cents {
 }
 
 // An amount paid once, in a year, in cents of that year.
+#[tactic(auto, unfolding(crate::specs::Nominal::cents, steps::specs::Payment::once, steps::specs::Step::repeated))]
 pub fn paid_once(amount: u64, grow: u64, general: u64, year: u64) -> Cents
     requires { CentsFit general grow (amount * 100) × (amount ≤ 1_000_000_000) × (year ≤ last_nominal) }
     ensures { result.0 ≡ cents general (once amount grow year) }

@@ -2,27 +2,26 @@
 --     once-year, flow_year, investment-year, removal-year      the years of payments
 --     set_raised      a store that adds to a word
 --     raised_one, raised_both      words, payment by payment
---     below_raised, fallen_behind      what falls in a year is at most all, and nothing falls behind the last year
+--     raised-le, below_raised, fallen_behind      what falls in a year is at most all, and nothing falls behind the last year
 --     up_to_in, up_to_out, fallen-up_to, fallen_past      a figure up to a last year
---     raised_late, flow_cut, flow_late      payments behind the last year raise no word
+--     raised_uncounted, flow_uncounted, flow_rest      payments of years that are not counted raise no word
 --     raised_if, raised_unless      a payment that is due, and one that is not
 --     overhauls_none, overhauls_next, overhauls_all      an arc's overhauls, one by one
 --     flow_none, flow_next      a flow, year by year
 --     paid_none, paid_raised      an arc but for its removal, part by part
 --     closing_raised, closing_unraised      its removal, and none
---     sum_fits      a word that is raised fits in 64 bits
 -- Assumes nothing.
-use Prim.Native.Nat.{ℕ, zero, suc, ◌+◌, ◌-◌, ◌^◌, ◌≤◌, ◌<◌, min}
+use Prim.Native.Nat.{ℕ, zero, suc, ◌+◌, ◌-◌, ◌≤◌, ◌<◌}
 use mathlib.Core.Path.{◌≡◌, refl, sym, ◌∙◌}
 use mathlib.Core.List.{List, [], ◌∷◌, ◌++◌}
-use mathlib.Core.Bool.{Bool, true, false}
+use mathlib.Core.Bool.{Bool, true, false, true≢false}
 use native.Mathlib.Nat.{add-zero}
 use native.Mathlib.Omega.{arith}
 use native.Mathlib.Numerals.{add-one}
-use lib.Dec.{eqb, leb, ltb}
+use lib.Dec.{eqb, ltb}
 use lib.ListN.{length, get_or, set}
 use lib.Seq.{get_or-set_same, get_or-set_other}
-use borrow.Author.Tests.{eqb-true, eqb-false, ne_eqb, le-leb, lt-leb, leb-true, leb-false}
+use borrow.Author.Tests.{eqb-true, eqb-false, ne_eqb, le-leb, lt-leb}
 use Rattle.base.specs.Lists.{Every, sum_of}
 use Rattle.base.proofs.TestLaws.{by_test}
 use Rattle.base.proofs.ListsLaws.{sum_of-append, sum_of_one}
@@ -95,9 +94,12 @@ module _ (φ : Payment → ℕ) where
   fallen-le y [] = omega arith
   fallen-le y (q ∷ qs) = omega (arith, in_only-le (year q) (φ q) y, fallen-le y qs)
 
+  pub raised-le : (old new : List ℕ) (qs : List Payment) (y : ℕ) → Raised φ old new qs → get_or new y 0 ≤ get_or old y 0 + sum_of φ qs
+  raised-le old new qs y h = omega (arith, h y, fallen-le y qs)
+
   pub below_raised :
       (last b m : ℕ) (old new : List ℕ) (qs : List Payment) → Below last b old → Raised φ old new qs → sum_of φ qs ≤ m → Below last (b + m) new
-  below_raised last b m old new qs h k l y early = omega (arith, h y early, k y, fallen-le y qs)
+  below_raised last b m old new qs h k l y early = omega (arith, h y early, raised-le old new qs y k)
 
   -- and nothing falls behind the last year of the payments
   pub fallen_behind : (y last : ℕ) (qs : List Payment) → Every (λ q. year q ≤ last) qs → last < y → fallen φ y qs ≡ 0
@@ -132,10 +134,6 @@ module _ (last : ℕ) (φ : Payment → ℕ) where
       (λ t. let e = eqb-true (year q) y t in rw (t, up_to_out q (omega arith)))
       (λ t. rw t)
 
-  falls_late : (y : ℕ) (q : Payment) → last < year q → falling (up_to last φ) y q ≡ 0
-  unfolding in_only
-  falls_late y q l = by_test (eqb (year q) y) (λ t. rw (t, up_to_out q l)) (λ t. rw t)
-
   pub fallen-up_to : (y : ℕ) (qs : List Payment) → y ≤ last → fallen (up_to last φ) y qs ≡ fallen φ y qs
   unfolding sum_of
   fallen-up_to y [] l = refl
@@ -146,38 +144,49 @@ module _ (last : ℕ) (φ : Payment → ℕ) where
   fallen_past y [] l = refl
   fallen_past y (q ∷ qs) l = rw (falls_out y q l, fallen_past y qs l)
 
-  -- a payment behind the last year raises no word
-  pub raised_late : (l : List ℕ) (q : Payment) → last < year q → Raised (up_to last φ) l l (q ∷ [])
-  raised_late l q h y = omega (arith, sum_of_one (falling (up_to last φ) y) q, falls_late y q h)
+-- A figure that is 0 of the payments of years that are not counted; with a year all earlier ones are counted.
+module _ (counts : ℕ → Bool) (earlier : (y z : ℕ) → y ≤ z → counts z ≡ true → counts y ≡ true) (φ : Payment → ℕ)
+    (uncounted : (q : Payment) → counts (year q) ≡ false → φ q ≡ 0) where
+  later : (y z : ℕ) → y ≤ z → counts y ≡ false → counts z ≡ false
+  later y z l t = by_test (counts z) (λ v. absurd (true≢false (sym (earlier y z l v) ∙ t))) (λ v. v)
 
-  -- the years of a flow behind the last raise none either: of n years those up to the last are enough, and none if it starts behind it
+  falls_uncounted : (y : ℕ) (q : Payment) → counts (year q) ≡ false → falling φ y q ≡ 0
+  unfolding in_only
+  falls_uncounted y q t = by_test (eqb (year q) y) (λ v. rw (v, uncounted q t)) (λ v. rw v)
+
+  pub raised_uncounted : (l : List ℕ) (q : Payment) → counts (year q) ≡ false → Raised φ l l (q ∷ [])
+  raised_uncounted l q t y = omega (arith, sum_of_one (falling φ y) q, falls_uncounted y q t)
+
+  -- the years of a flow behind one that is not counted raise no word either
   module _ (w : Flow) (s t : ℕ) (older : s ≤ t) where
-    late_year : (y j : ℕ) → last < t + suc j → sum_of (falling (up_to last φ) y) (in_year w s t (suc j) ∷ []) ≡ 0
-    late_year y j h =
+    uncounted_year : (y j : ℕ) → counts (t + suc j) ≡ false → sum_of (falling φ y) (in_year w s t (suc j) ∷ []) ≡ 0
+    uncounted_year y j v =
         let q = in_year w s t (suc j) in
-        omega (arith, sum_of_one (falling (up_to last φ) y) q, falls_late y q (rw (flow_year w s t (suc j) older) h))
+        omega (arith, sum_of_one (falling φ y) q, falls_uncounted y q (rw (flow_year w s t (suc j) older) v))
 
-    flow_more : (n : ℕ) → last ≤ t + n → (m y : ℕ) → fallen (up_to last φ) y (flow_paid w s t (n + m)) ≡ fallen (up_to last φ) y (flow_paid w s t n)
-    flow_more n h zero y = rw (add-zero n)
-    flow_more n h (suc m) y =
+    flow_more : (n : ℕ) → counts (t + suc n) ≡ false → (m y : ℕ) → fallen φ y (flow_paid w s t (n + m)) ≡ fallen φ y (flow_paid w s t n)
+    flow_more n v zero y = rw (add-zero n)
+    flow_more n v (suc m) y =
         let e : n + suc m ≡ suc (n + m) = omega arith in
-        rw e (omega (arith, Sum.for_each-suc (falling (up_to last φ) y) (n + m) (λ k. in_year w s t (suc k) ∷ []), late_year y (n + m) (omega arith), flow_more n h m y))
+        rw e (
+        omega (
+          arith,
+          Sum.for_each-suc (falling φ y) (n + m) (λ k. in_year w s t (suc k) ∷ []),
+          uncounted_year y (n + m) (later (t + suc n) (t + suc (n + m)) (omega arith) v),
+          flow_more n v m y,
+        ))
 
-    pub flow_cut :
-        (old new : List ℕ) (n : ℕ) {count : ℕ} → count ≡ min n (last - t) → t ≤ last
-        → Raised (up_to last φ) old new (flow_paid w s t count) → Raised (up_to last φ) old new (flow_paid w s t n)
-    flow_cut old new n {count} e early h y =
-        by_test (leb n (last - t))
-        (λ l. let m = leb-true n (last - t) l in let same : count ≡ n = omega arith in rw (← same) (h y))
-        (λ l.
-        let m = leb-false n (last - t) l in
-        let same : count + (n - count) ≡ n = omega arith in
-        omega (arith, h y, rw same at (flow_more count (omega arith) (n - count) y)))
+    pub flow_rest :
+        (old new : List ℕ) (n m : ℕ) → n ≤ m → counts (t + n + 1) ≡ false → Raised φ old new (flow_paid w s t n) → Raised φ old new (flow_paid w s t m)
+    flow_rest old new n m few v h y =
+        let next : t + n + 1 ≡ t + suc n = omega arith in
+        let same : n + (m - n) ≡ m = omega arith in
+        omega (arith, h y, rw same at (flow_more n (rw next at v) (m - n) y))
 
-    pub flow_late : (l : List ℕ) (n : ℕ) → last < t → Raised (up_to last φ) l l (flow_paid w s t n)
-    flow_late l n h y =
-        let same : 0 + n ≡ n = omega arith in
-        omega (arith, rw same at (flow_more 0 (omega arith) n y), Sum.for_each-zero (falling (up_to last φ) y) (λ k. in_year w s t (suc k) ∷ []))
+    pub flow_uncounted : (l : List ℕ) (m : ℕ) → counts t ≡ false → Raised φ l l (flow_paid w s t m)
+    flow_uncounted l m v =
+        flow_rest l l 0 m (omega arith) (later t (t + 0 + 1) (omega arith) v)
+        (λ y. omega (arith, Sum.for_each-zero (falling φ y) (λ k. in_year w s t (suc k) ∷ [])))
 
 -- an arc, part by part
 module _ (φ : Payment → ℕ) (old : List ℕ) where
@@ -244,7 +253,3 @@ module _ (φ : Payment → ℕ) (old : List ℕ) where
   pub closing_unraised : (a : Kept) (removed : Bool) (n T : ℕ) → closes a removed n T ≡ false → Raised φ old old (closing a removed n T)
   unfolding closing
   closing_unraised a removed n T t = raised_unless (closes a removed n T) (removal a (a.from + n)) t
-
--- a word that is raised fits in 64 bits
-pub sum_fits : (l : List ℕ) (at v last b : ℕ) → Below last b l → at ≤ last → b + v < 2 ^ 64 → get_or l at 0 + v < 2 ^ 64
-sum_fits l at v last b h early room = let small = h at early in omega arith

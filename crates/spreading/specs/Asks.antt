@@ -1,10 +1,13 @@
--- What the code that adds to the words asks: that the words of the years are there, and that 64 bits suffice. Definitions only.
-use Rattle.std.specs.Prelude.{ℕ, ◌+◌, ◌*◌, ◌≤◌, ◌<◌, List, length, get_or}
+-- What the code that adds to the words asks: that the words of the years are there, and that 64 bits suffice. A ledger says for which discount
+-- factors it is ready, and which years it counts. Definitions only.
+use Rattle.std.specs.Prelude.{ℕ, ◌+◌, ◌*◌, ◌≤◌, ◌<◌, ◌≡◌, Bool, true, List, length, get_or}
 use Rattle.nominal.specs.Nominal.{last_nominal}
-use Rattle.division.specs.declared.Divisor.{Divisor}
 use Rattle.sheet.specs.declared.Flow.{Flow}
 use Rattle.checking.specs.Fit.{FlowFits}
-use Rattle.costing.specs.Fit.{yearly, FlowSteps, KeptFits, Steppable}
+use Rattle.steps.specs.Payment.{Payment}
+use Rattle.steps.specs.Fit.{Rates}
+use Rattle.costing.specs.Arc.{in_year}
+use Rattle.costing.specs.Fit.{yearly, KeptFits}
 use Rattle.costing.specs.declared.Kept.{Kept}
 use Rattle.spreading.specs.declared.Money.{Money}
 
@@ -19,52 +22,47 @@ before_payment = 1_000_000_000_000_000_000
 abbrev pub before_arc : ℕ
 before_arc = 100_000_000_000_000_000
 
--- there are words of the years 0 to last, and none is above b
-pub record Room (words : List ℕ) (last b : ℕ) : Type 0 where
-  pub long : last < length words
-  pub low : Below last b words
+-- of the years 0 to last those that are counted have words, and none is above b
+pub record Room (counts : ℕ → Bool) (words : List ℕ) (last b : ℕ) : Type 0 where
+  pub long : (y : ℕ) → y ≤ last → counts y ≡ true → y < length words
+  pub low : (y : ℕ) → y ≤ last → counts y ≡ true → get_or words y 0 ≤ b
 
--- a flow that steps as the discount factor at hand lets it
-pub record FlowAsks (words : List ℕ) (discount : Divisor) (flow : Flow) (since from years : ℕ) : Type 0 where
-  pub steps : FlowSteps discount flow
-  pub old : since ≤ from
-  pub early : from ≤ 300
-  pub few : years ≤ 300
-  pub room : Room words (from + years) before_arc
+-- a payment that the checks let pass, for a discount factor that a ledger is ready for
+pub record Payable (ready : ℕ → Type 0) (q : Payment) : Type 0 where
+  pub discount : ℕ
+  pub suits : ready discount
+  pub low : 1_000_000 ≤ discount
+  pub high : discount ≤ 1_200_000
+  pub rates : Rates discount q
+  pub aged : q.age ≤ 1_300_000
+  pub amount : q.amount ≤ 1_000_000_000
 
--- an arc: until it starts, no word is more than the years before it can have cost
-pub record ArcAsks (words : List ℕ) (kept : Kept) (discount : Divisor) (years : ℕ) : Type 0 where
-  pub steps : Steppable kept discount
+-- a flow of a sheet that passes the checks, in the same way
+pub record FlowPasses (ready : ℕ → Type 0) (w : Flow) : Type 0 where
+  pub discount : ℕ
+  pub suits : ready discount
+  pub low : 1_000_000 ≤ discount
+  pub high : discount ≤ 1_200_000
+  pub fits : FlowFits discount w
+
+-- what a flow pays in a year by year 600, and the year behind it is counted
+pub record Running (ready : ℕ → Type 0) (counts : ℕ → Bool) (figure : Payment → ℕ) (w : Flow) (amount : ℕ) : Type 0 where
+  pub since : ℕ
+  pub year : ℕ
+  pub old : since ≤ year
+  pub early : year ≤ 600
+  pub payable : Payable ready (in_year w since year 0)
+  pub next : counts (year + 1) ≡ true
+  pub stands : amount ≡ figure (in_year w since year 0)
+
+-- an arc of an option that passes the checks: until it starts, no word is more than the years before it can have cost
+pub record ArcAsks (ready : ℕ → Type 0) (counts : ℕ → Bool) (words : List ℕ) (kept : Kept) (years : ℕ) : Type 0 where
+  pub fits : KeptFits kept
+  pub suits : ready kept.discount
   pub few : years ≤ 300
-  pub long : kept.from + years < length words
-  pub room : Below (kept.from + years) (kept.from * yearly) words
+  pub room : Room counts words (kept.from + years) (kept.from * yearly)
 
 -- money of the year can be counted: general inflation is at most 5 per cent, the last year at most 15
 pub record MoneyFits (m : Money) : Type 0 where
   pub inflation : m.general ≤ 1_050_000
   pub early : m.last ≤ last_nominal
-
--- it can, and there are words of its years, none of which is above b
-pub record MoneyAsks (words : List ℕ) (m : Money) (b : ℕ) : Type 0 where
-  pub money : MoneyFits m
-  pub room : Room words m.last b
-
--- an amount with its inflation, as the check lets it pass
-pub record OnceFits (amount grow : ℕ) : Type 0 where
-  pub small : amount ≤ 1_000_000_000
-  pub grown : grow ≤ 1_200_000
-
--- a flow of a sheet that passes the checks, whatever its discount factor
-pub record FlowPasses (w : Flow) : Type 0 where
-  pub discount : ℕ
-  pub low : 1_000_000 ≤ discount
-  pub high : discount ≤ 1_200_000
-  pub fits : FlowFits discount w
-
--- an arc in money of the year: as above, until it starts no word is more than the years before it can have cost
-pub record MoneyArcAsks (words : List ℕ) (kept : Kept) (m : Money) (years : ℕ) : Type 0 where
-  pub fits : KeptFits kept
-  pub money : MoneyFits m
-  pub few : years ≤ 300
-  pub long : m.last < length words
-  pub room : Below m.last (kept.from * yearly) words

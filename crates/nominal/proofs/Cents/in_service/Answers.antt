@@ -1,16 +1,8 @@
 -- Ageing, general inflation, then its own. Assumes nothing.
-use mathlib.Core.Path.{refl, ap₂, ◌∙◌}
 use native.Mathlib.Omega.{arith}
-use Rattle.nominal.specs.Nominal.{risen, nominal_plain, nominal_in_service}
 use Rattle.nominal.specs.Fit.{largest_cents}
 use Rattle.nominal.proofs.SizeLaws.{risen-le}
 use Rattle.nominal.proofs.Cents.in_service.Goals as goal
-
-pub returns : goal.returns
-unfolding nominal_in_service nominal_plain
-returns c =
-    c.risen-3.ensures
-    ∙ ap₂ risen (omega arith) (c.risen-2.ensures ∙ ap₂ risen (omega arith) (c.risen.ensures ∙ ap₂ risen (omega arith) refl))
 
 pub risen-requires-2 : goal.risen-requires-2
 risen-requires-2 c =

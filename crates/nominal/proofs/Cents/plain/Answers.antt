@@ -1,14 +1,8 @@
 -- General inflation, then its own. Assumes nothing.
-use mathlib.Core.Path.{refl, ap₂, ◌∙◌}
 use native.Mathlib.Omega.{arith}
-use Rattle.nominal.specs.Nominal.{risen, nominal_plain}
 use Rattle.nominal.specs.Fit.{largest_cents}
 use Rattle.nominal.proofs.SizeLaws.{risen-le}
 use Rattle.nominal.proofs.Cents.plain.Goals as goal
-
-pub returns : goal.returns
-unfolding nominal_plain
-returns c = c.risen-2.ensures ∙ ap₂ risen (omega arith) (c.risen.ensures ∙ ap₂ risen (omega arith) refl)
 
 pub risen-requires-2 : goal.risen-requires-2
 risen-requires-2 c =
