@@ -13,7 +13,13 @@ fn later(rt: &impl Print, units: &[u64], cents: &[u64]) -> io::Result<()> {
     Ok(())
 }
 
-// The plan of least total: the words, the sum of years 0 to 300 beside the price, and the words behind either list.
+// The sum of years 0 to 300 beside the price, and the words behind either list.
+fn closing(rt: &impl Print, call: Call, units: &[u64; 303], cents: &[u64; 18]) -> io::Result<()> {
+    call.totals(rt, &units[..301])?;
+    behind(rt, &units[301..], &cents[16..])
+}
+
+// The plan of least total.
 pub fn replacing(rt: &impl Print) -> io::Result<()> {
     let s = sheet();
     let p = Plan::of(0, 0, &[60, 120, 180, 240, 300]);
@@ -28,8 +34,7 @@ pub fn replacing(rt: &impl Print) -> io::Result<()> {
     call.answer(rt, &mut units, &mut cents)?;
     years(rt, &units, &cents, 16)?;
     later(rt, &units, &cents)?;
-    call.totals(rt, &units[..301])?;
-    behind(rt, &units[301..], &cents[16..])
+    closing(rt, call, &units, &cents)
 }
 
 // The lives that Table 8 has for the classic approach, 5 and 30 years. Year 5 has the last flows of maintaining, whose overhaul of that age is
@@ -47,8 +52,7 @@ pub fn postponing(rt: &impl Print) -> io::Result<()> {
     };
     call.answer(rt, &mut units, &mut cents)?;
     years(rt, &units, &cents, 16)?;
-    call.totals(rt, &units[..301])?;
-    behind(rt, &units[301..], &cents[16..])
+    closing(rt, call, &units, &cents)
 }
 
 // Year 15 has maintenance, electricity and an overhaul, each under fifteen years of general inflation.
