@@ -2,68 +2,85 @@
 
 ghost use Rattle.std.specs.Prelude.{◌≤◌};
 
-use crate::show::answer;
+use crate::show::{Call, HELD};
 use crate::small;
-use crate::words::HELD;
-use test_sheets::plans::plan;
-use test_sheets::{REPLACE_AT, lives, paper, put16};
+use std::io;
+use test_sheets::plans::Plan;
+use test_sheets::{REPLACE_AT, ShortSheet, paper};
 
 // A call on lists of so many words.
-pub fn lent(name: &[u8], sheet: &[u8], plan: &[u8], general: u64, units: usize, cents: usize)
+pub fn lent(rt: &impl Print, call: Call, units: usize, cents: usize) -> io::Result<()>
     requires { (units ≤ 301) × (cents ≤ 16) }
 {
     let mut first = [HELD; 301];
     let mut second = [HELD; 16];
-    answer(
-        name,
-        sheet,
-        plan,
-        general,
-        &mut first[0..units],
-        &mut second[0..cents],
-    );
+    call.answer(rt, &mut first[..units], &mut second[..cents])
 }
 
-fn two() {
+fn two(rt: &impl Print) -> io::Result<()> {
     let s = small::sheet();
     let p = small::plan();
-    lent(b"T 2", &s, &p[0..23], 1_000, 2, 3);
-    lent(b"T 2", &s, &p[0..23], 1_000, 3, 2);
-    lent(b"T 2", &s, &p[0..23], 1_000, 3, 3);
+    let call = Call {
+        name: "T 2",
+        sheet: &s.0,
+        plan: p.bytes(),
+        general: 1_000,
+    };
+    lent(rt, call, 2, 3)?;
+    lent(rt, call, 3, 2)?;
+    lent(rt, call, 3, 3)
 }
 
 // The small sheet with another horizon, up to which a replacement may last.
-pub fn lasting(horizon: u64) -> [u8; 278] {
-    put16(lives(small::sheet(), REPLACE_AT, 1, 16), 5, horizon)
+pub fn lasting(horizon: u16) -> ShortSheet {
+    small::sheet().lives(REPLACE_AT, 1, 16).put16(5, horizon)
 }
 
-fn fifteen() {
+fn fifteen(rt: &impl Print) -> io::Result<()> {
     let s = lasting(15);
-    let p = plan(0, 0, 1, [15, 0, 0, 0, 0, 0]);
-    lent(b"T 15", &s, &p[0..21], 1_000, 15, 16);
-    lent(b"T 15", &s, &p[0..21], 1_000, 16, 15);
-    lent(b"T 15", &s, &p[0..21], 1_000, 16, 16);
+    let p = Plan::of(0, 0, &[15]);
+    let call = Call {
+        name: "T 15",
+        sheet: &s.0,
+        plan: p.bytes(),
+        general: 1_000,
+    };
+    lent(rt, call, 15, 16)?;
+    lent(rt, call, 16, 15)?;
+    lent(rt, call, 16, 16)
 }
 
-fn sixteen() {
+fn sixteen(rt: &impl Print) -> io::Result<()> {
     let s = lasting(16);
-    let p = plan(0, 0, 1, [16, 0, 0, 0, 0, 0]);
-    lent(b"T 16", &s, &p[0..21], 1_000, 16, 16);
-    lent(b"T 16", &s, &p[0..21], 1_000, 17, 15);
-    lent(b"T 16", &s, &p[0..21], 1_000, 17, 16);
+    let p = Plan::of(0, 0, &[16]);
+    let call = Call {
+        name: "T 16",
+        sheet: &s.0,
+        plan: p.bytes(),
+        general: 1_000,
+    };
+    lent(rt, call, 16, 16)?;
+    lent(rt, call, 17, 15)?;
+    lent(rt, call, 17, 16)
 }
 
-fn three_hundred() {
+fn three_hundred(rt: &impl Print) -> io::Result<()> {
     let s = paper::sheet();
-    let p = plan(0, 0, 5, [60, 120, 180, 240, 300, 0]);
-    lent(b"T 300", &s, &p[0..29], 20_000, 300, 16);
-    lent(b"T 300", &s, &p[0..29], 20_000, 301, 15);
-    lent(b"T 300", &s, &p[0..29], 20_000, 301, 16);
+    let p = Plan::of(0, 0, &[60, 120, 180, 240, 300]);
+    let call = Call {
+        name: "T 300",
+        sheet: &s.0,
+        plan: p.bytes(),
+        general: 20_000,
+    };
+    lent(rt, call, 300, 16)?;
+    lent(rt, call, 301, 15)?;
+    lent(rt, call, 301, 16)
 }
 
-pub fn all() {
-    two();
-    fifteen();
-    sixteen();
-    three_hundred();
+pub fn all(rt: &impl Print) -> io::Result<()> {
+    two(rt)?;
+    fifteen(rt)?;
+    sixteen(rt)?;
+    three_hundred(rt)
 }

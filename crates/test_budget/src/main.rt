@@ -5,20 +5,21 @@
 
 #![tactic(auto)]
 
+use std::io;
+
 mod lengths;
 mod paper;
 mod refusals;
 mod removals;
 mod show;
 mod small;
-mod words;
 
-fn main() {
-    paper::replacing();
-    paper::postponing();
-    paper::inflations();
-    small::inflations();
-    removals::all();
-    lengths::all();
-    refusals::all();
+fn main(rt: HostRuntime) -> io::Result<()> {
+    paper::replacing(&rt)?;
+    paper::postponing(&rt)?;
+    paper::inflations(&rt)?;
+    small::inflations(&rt)?;
+    removals::all(&rt)?;
+    lengths::all(&rt)?;
+    refusals::all(&rt)
 }

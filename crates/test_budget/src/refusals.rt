@@ -1,56 +1,76 @@
 // Refusals in their order: the sheet's number, then the plan's 14, then 15, then 16. Each comes with all the later faults, on empty lists, and by
 // itself, on lists that are long enough; without a fault the call is accepted.
 
+ghost use Rattle.std.specs.Prelude.{◌≤◌};
+
 use crate::lengths::lent;
+use crate::show::Call;
 use crate::small;
-use test_sheets::plans::plan;
-use test_sheets::{REPLACE_AT, put16, put32};
+use std::io;
+use test_sheets::plans::Plan;
+use test_sheets::{REPLACE_AT, ShortSheet};
 
-const TOP: u64 = 18_446_744_073_709_551_615;
-
-// A replacement of 2 years, where only 1 year is offered, in 21 bytes.
-fn late() -> [u8; 31] {
-    plan(0, 0, 1, [2, 0, 0, 0, 0, 0])
+// A replacement of 2 years, where only 1 year is offered.
+fn late() -> Plan {
+    Plan::of(0, 0, &[2])
 }
 
-fn sheets() {
-    let rate = put32(small::sheet(), 7, 200_001);
-    let life = put16(small::sheet(), REPLACE_AT + 2, 121);
+// On lists of so many words: of none, or of 3, which are enough.
+fn case(
+    rt: &impl Print,
+    name: &str,
+    sheet: ShortSheet,
+    plan: Plan,
+    general: u64,
+    words: usize,
+) -> io::Result<()>
+    requires { words ≤ 16 }
+{
+    let call = Call {
+        name,
+        sheet: &sheet.0,
+        plan: plan.bytes(),
+        general,
+    };
+    lent(rt, call, words, words)
+}
+
+fn sheets(rt: &impl Print) -> io::Result<()> {
+    let rate = small::sheet().put32(7, 200_001);
+    let life = small::sheet().put16(REPLACE_AT + 2, 121);
     let p = small::plan();
-    let l = late();
-    lent(b"r 200,001, replace 2", &rate, &l[0..21], 50_001, 0, 0);
-    lent(b"r 200,001", &rate, &p[0..23], 50_000, 3, 3);
-    lent(b"life 121, replace 2", &life, &l[0..21], 50_001, 0, 0);
-    lent(b"life 121", &life, &p[0..23], 50_000, 3, 3);
+    case(rt, "r 200,001, replace 2", rate, late(), 50_001, 0)?;
+    case(rt, "r 200,001", rate, p, 50_000, 3)?;
+    case(rt, "life 121, replace 2", life, late(), 50_001, 0)?;
+    case(rt, "life 121", life, p, 50_000, 3)
 }
 
-fn plans() {
+fn plans(rt: &impl Print) -> io::Result<()> {
     let s = small::sheet();
-    let l = late();
-    lent(b"replace 2", &s, &l[0..21], 50_001, 0, 0);
-    lent(b"replace 2", &s, &l[0..21], 50_000, 3, 3);
+    case(rt, "replace 2", s, late(), 50_001, 0)?;
+    case(rt, "replace 2", s, late(), 50_000, 3)
 }
 
 // The four low bytes of 2^32 would be accepted.
-fn inflations() {
+fn inflations(rt: &impl Print) -> io::Result<()> {
     let s = small::sheet();
     let p = small::plan();
-    lent(b"replace 1 2", &s, &p[0..23], 50_001, 0, 0);
-    lent(b"replace 1 2", &s, &p[0..23], 50_001, 3, 3);
-    lent(b"replace 1 2", &s, &p[0..23], 4_294_967_296, 3, 3);
-    lent(b"replace 1 2", &s, &p[0..23], TOP, 3, 3);
+    case(rt, "replace 1 2", s, p, 50_001, 0)?;
+    case(rt, "replace 1 2", s, p, 50_001, 3)?;
+    case(rt, "replace 1 2", s, p, 4_294_967_296, 3)?;
+    case(rt, "replace 1 2", s, p, u64::MAX, 3)
 }
 
-fn lists() {
+fn lists(rt: &impl Print) -> io::Result<()> {
     let s = small::sheet();
     let p = small::plan();
-    lent(b"replace 1 2", &s, &p[0..23], 50_000, 0, 0);
-    lent(b"replace 1 2", &s, &p[0..23], 50_000, 3, 3);
+    case(rt, "replace 1 2", s, p, 50_000, 0)?;
+    case(rt, "replace 1 2", s, p, 50_000, 3)
 }
 
-pub fn all() {
-    sheets();
-    plans();
-    inflations();
-    lists();
+pub fn all(rt: &impl Print) -> io::Result<()> {
+    sheets(rt)?;
+    plans(rt)?;
+    inflations(rt)?;
+    lists(rt)
 }

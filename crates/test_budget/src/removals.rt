@@ -2,82 +2,84 @@
 // in the last year of cents and behind it.
 
 use crate::lengths::lasting;
-use crate::show::{answer, behind, totals, year, years};
-use crate::words::HELD;
+use crate::show::{Call, HELD, behind, year, years};
+use std::io;
 use test_sheets::longer::Removal;
-use test_sheets::plans::plan;
+use test_sheets::plans::Plan;
 use test_sheets::{longer, removals};
 
 // The words of years 0 to 4, their sum and the price, and the word behind either list.
-fn four_years(name: &[u8], sheet: &[u8], plan: &[u8], general: u64) {
+fn four_years(rt: &impl Print, call: Call) -> io::Result<()> {
     let mut units = [HELD; 6];
     let mut cents = [HELD; 6];
-    answer(name, sheet, plan, general, &mut units, &mut cents);
-    years(&units, &cents, 5);
-    totals(&units[0..5], sheet, plan);
-    behind(&units[5..6], &cents[5..6]);
+    call.answer(rt, &mut units, &mut cents)?;
+    years(rt, &units, &cents, 5)?;
+    call.totals(rt, &units[..5])?;
+    behind(rt, &units[5..], &cents[5..])
 }
 
 // Year 2 has the last flow and the removal of one replacement, and the investment of the next.
-fn case_12() {
+fn case_12(rt: &impl Print) -> io::Result<()> {
     let s = removals::case_12();
-    let p = plan(0, 0, 2, [2, 4, 0, 0, 0, 0]);
-    four_years(b"case 12 removed, replace 2 4", &s, &p[0..23], 50_000);
+    let p = Plan::of(0, 0, &[2, 4]);
+    let call = Call {
+        name: "case 12 removed, replace 2 4",
+        sheet: &s.0,
+        plan: p.bytes(),
+        general: 50_000,
+    };
+    four_years(rt, call)
 }
 
 // Maintaining ends in year 1 and pays none, renovating in year 2, and the replacements in years 3 and T; then renovating has length 0 in year 1.
-fn alone() {
+fn alone(rt: &impl Print) -> io::Result<()> {
     let s = removals::alone();
-    let every = plan(1, 2, 2, [3, 4, 0, 0, 0, 0]);
-    let skipped = plan(1, 1, 3, [2, 3, 4, 0, 0, 0]);
-    four_years(
-        b"removals alone, maintain 1, renovate 2, replace 3 4",
-        &s,
-        &every[0..23],
-        20_000,
-    );
-    four_years(
-        b"removals alone, maintain 1, replace 2 3 4",
-        &s,
-        &skipped[0..25],
-        20_000,
-    );
+    let p = Plan::of(1, 2, &[3, 4]);
+    let every = Call {
+        name: "removals alone, maintain 1, renovate 2, replace 3 4",
+        sheet: &s.0,
+        plan: p.bytes(),
+        general: 20_000,
+    };
+    four_years(rt, every)?;
+    let p = Plan::of(1, 1, &[2, 3, 4]);
+    let skipped = Call {
+        name: "removals alone, maintain 1, replace 2 3 4",
+        sheet: &s.0,
+        plan: p.bytes(),
+        general: 20_000,
+    };
+    four_years(rt, skipped)
 }
 
-// Both lists, the word behind either last.
-fn last_years(sheet: &[u8], plan: &[u8], units: [u64; 19], cents: [u64; 17]) {
-    years_14_to_17(&units[0..18], &cents[0..16]);
-    totals(&units[0..18], sheet, plan);
-    behind(&units[18..19], &cents[16..17]);
-}
-
-fn years_14_to_17(units: &[u64], cents: &[u64]) {
-    year(units, cents, 14);
-    year(units, cents, 15);
-    year(units, cents, 16);
-    year(units, cents, 17);
+fn years_14_to_17(rt: &impl Print, units: &[u64], cents: &[u64]) -> io::Result<()> {
+    for y in 14..=17 {
+        year(rt, units, cents, y)?;
+    }
+    Ok(())
 }
 
 // The small sheet for 17 years with removal 4, which is paid in years 15 and 16.
-fn last_cents() {
+fn last_cents(rt: &impl Print) -> io::Result<()> {
     let r = Removal::of(4, 10_000);
-    let s = longer::sheet(lasting(17), Removal::none(), Removal::none(), r);
-    let p = plan(0, 0, 3, [15, 16, 17, 0, 0, 0]);
+    let s = longer::sheet(lasting(17), Removal::NONE, Removal::NONE, r);
+    let p = Plan::of(0, 0, &[15, 16, 17]);
     let mut units = [HELD; 19];
     let mut cents = [HELD; 17];
-    answer(
-        b"small removed, replace 15 16 17",
-        &s,
-        &p[0..25],
-        20_000,
-        &mut units,
-        &mut cents,
-    );
-    last_years(&s, &p[0..25], units, cents);
+    let call = Call {
+        name: "small removed, replace 15 16 17",
+        sheet: &s.0,
+        plan: p.bytes(),
+        general: 20_000,
+    };
+    call.answer(rt, &mut units, &mut cents)?;
+    years_14_to_17(rt, &units[..18], &cents[..16])?;
+    call.totals(rt, &units[..18])?;
+    behind(rt, &units[18..], &cents[16..])
 }
 
-pub fn all() {
-    case_12();
-    alone();
-    last_cents();
+pub fn all(rt: &impl Print) -> io::Result<()> {
+    case_12(rt)?;
+    alone(rt)?;
+    last_cents(rt)
 }

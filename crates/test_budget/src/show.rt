@@ -1,82 +1,68 @@
 // What is printed: a call and what it answers, the words of a year, a sum, and whether words hold what they held.
 
-use crate::words::{kept, sum};
-use test_sheets::show::{answered, number};
+use std::io;
+use test_sheets::show::{Named, settled};
 
-const OUT: i32 = 1;
+// What every word of a list holds before a call.
+pub const HELD: u64 = 7;
 
 // Whether words hold what they held.
-fn state(name: &[u8], words: &[u64]) {
-    io::write_all(OUT, name);
-    if kept(words) {
-        io::write_all(OUT, b" kept");
+fn state(words: &[u64]) -> &'static str {
+    if words.iter().all(|&word| word == HELD) {
+        "kept"
     } else {
-        io::write_all(OUT, b" written");
+        "written"
     }
 }
 
-// The same of either list, and the line ends.
-fn states(units: &[u64], cents: &[u64]) {
-    state(b" units", units);
-    state(b", cents", cents);
-    io::write_all(OUT, b"\n");
+// What is budgeted in a case.
+#[derive(Clone, Copy)]
+pub struct Call<'a> {
+    pub name: &'a str,
+    pub sheet: &'a [u8],
+    pub plan: &'a [u8],
+    pub general: u64,
 }
 
-// A call's line: its name, general inflation and the lengths of both lists, then what `budget` answers, and whether it left the lists.
-pub fn answer(
-    name: &[u8],
-    sheet: &[u8],
-    plan: &[u8],
-    general: u64,
-    units: &mut [u64],
-    cents: &mut [u64],
-) {
-    let a = budget::budget(sheet, plan, general, units, cents);
-    io::write_all(OUT, name);
-    io::write_all(OUT, b", general");
-    number(general);
-    io::write_all(OUT, b", words");
-    number(units.len() as u64);
-    number(cents.len() as u64);
-    test_sheets::show::answer(a);
-    io::write_all(OUT, b",");
-    states(units, cents);
-}
+impl Call<'_> {
+    // The call's line: its name, general inflation and the lengths of both lists, then what `budget` answers, and whether it left the lists.
+    pub fn answer(self, rt: &impl Print, units: &mut [u64], cents: &mut [u64]) -> io::Result<()> {
+        let answer = budget::budget(self.sheet, self.plan, self.general, units, cents);
+        let total = Named("units", settled(answer));
+        print!(rt; "{}, general {}", self.name, self.general)?;
+        print!(rt; ", words {} {}: {total}", units.len(), cents.len())?;
+        println!(rt; ", units {}, cents {}", state(units), state(cents))
+    }
 
-// A year's word, where the list reaches that year.
-fn word(name: &[u8], words: &[u64], y: usize) {
-    if y < words.len() {
-        io::write_all(OUT, name);
-        number(words[y]);
+    // The sum of the words of all years, and what `price` answers.
+    pub fn totals(self, rt: &impl Print, units: &[u64]) -> io::Result<()> {
+        let sum = units.iter().fold(0u64, |sum, &word| sum.wrapping_add(word));
+        let price = Named("units", settled(pricing::price(self.sheet, self.plan)));
+        println!(rt; "sum: units {sum}\nprice: {price}")
     }
 }
 
-// The year with its words in units and in cents.
-pub fn year(units: &[u64], cents: &[u64], y: usize) {
-    io::write_all(OUT, b"year");
-    number(y as u64);
-    word(b": units", units, y);
-    word(b", cents", cents, y);
-    io::write_all(OUT, b"\n");
+// The year with its words in units and in cents, where the lists reach it.
+pub fn year(rt: &impl Print, units: &[u64], cents: &[u64], y: usize) -> io::Result<()> {
+    print!(rt; "year {y}")?;
+    if let Some(word) = units.get(y) {
+        print!(rt; ": units {word}")?;
+    }
+    if let Some(word) = cents.get(y) {
+        print!(rt; ", cents {word}")?;
+    }
+    println!(rt)
 }
 
 // That many years from year 0 on, a line a year.
-pub fn years(units: &[u64], cents: &[u64], count: usize) {
+pub fn years(rt: &impl Print, units: &[u64], cents: &[u64], count: usize) -> io::Result<()> {
     for y in 0..count {
-        year(units, cents, y);
+        year(rt, units, cents, y)?;
     }
-}
-
-// The sum of the words of all years, and what `price` answers.
-pub fn totals(units: &[u64], sheet: &[u8], plan: &[u8]) {
-    io::write_all(OUT, b"sum: units");
-    number(sum(units));
-    io::write_all(OUT, b"\nprice");
-    answered(pricing::price(sheet, plan));
+    Ok(())
 }
 
 // The words behind the last year of either list.
-pub fn behind(units: &[u64], cents: &[u64]) {
-    io::write_all(OUT, b"words behind:");
-    states(units, cents);
+pub fn behind(rt: &impl Print, units: &[u64], cents: &[u64]) -> io::Result<()> {
+    println!(rt; "words behind: units {}, cents {}", state(units), state(cents))
 }

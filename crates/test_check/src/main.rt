@@ -6,42 +6,40 @@
 
 ghost use Rattle.std.specs.Prelude.{◌≤◌};
 
+use std::io;
 use test_sheets::{MAINTAIN_AT, RENOVATE_AT, REPLACE_AT, longer};
 
 mod cases;
 mod removals;
 mod show;
 
-fn main() {
-    cases::lengths();
-    cases::version_1();
-    cases::version_2();
-    cases::version_3();
-    cases::header();
-    record(MAINTAIN_AT);
-    record(RENOVATE_AT);
-    record(REPLACE_AT);
-    cases::order();
-    removals::record(longer::MAINTAIN_AT);
-    removals::record(longer::RENOVATE_AT);
-    removals::record(longer::REPLACE_AT);
-    removals::overhauls();
-    removals::order();
-    removals::options();
+fn main(rt: HostRuntime) -> io::Result<()> {
+    cases::lengths(&rt)?;
+    cases::versions(&rt)?;
+    cases::header(&rt)?;
+    for at in [MAINTAIN_AT, RENOVATE_AT, REPLACE_AT] {
+        record(&rt, at)?;
+    }
+    cases::order(&rt)?;
+    for at in [longer::MAINTAIN_AT, longer::RENOVATE_AT, longer::REPLACE_AT] {
+        removals::record(&rt, at)?;
+    }
+    removals::overhauls(&rt)?;
+    removals::order(&rt)?;
+    removals::options(&rt)
 }
 
 // The cases of the option whose record starts at `at`.
-fn record(at: usize)
+fn record(rt: &impl Print, at: usize) -> io::Result<()>
     requires { at ≤ 189 }
 {
-    cases::lives(at);
-    cases::amounts(at);
-    cases::high_inflations(at);
-    cases::low_inflations(at);
-    cases::ageings(at);
-    cases::high_ageings(at);
-    cases::counts(at);
-    cases::entries(at);
-    cases::eight(at);
-    cases::rising(at);
+    cases::lives(rt, at)?;
+    cases::amounts(rt, at)?;
+    cases::inflations(rt, at)?;
+    cases::ageings(rt, at)?;
+    cases::high_ageings(rt, at)?;
+    cases::counts(rt, at)?;
+    cases::entries(rt, at)?;
+    cases::eight(rt, at)?;
+    cases::rising(rt, at)
 }

@@ -1,18 +1,24 @@
-// A case's line: its name, then `accepted` or `refused` with the number and the option.
+// A case's line: its name, then `accepted` or the refusal.
 
-use test_sheets::show::number;
+use std::{fmt, io};
+use test_sheets::show::{Refused, settled};
 
-const OUT: i32 = 1;
+#[derive(Clone, Copy)]
+pub struct Checked(Result<u64, Refused>);
 
-pub fn answer(name: &[u8], sheet: &[u8]) {
-    let a = checking::check(sheet);
-    io::write_all(OUT, name);
-    if a.number == 0 {
-        io::write_all(OUT, b": accepted\n");
-        return;
+impl fmt::Display for Checked {
+    fn fmt<W: fmt::Write>(&self, f: &mut fmt::Formatter<W>) -> fmt::Result {
+        match self.0 {
+            Ok(_) => f.write_str("accepted"),
+            Err(refused) => write!(f, "{refused}"),
+        }
     }
-    io::write_all(OUT, b": refused");
-    number(a.number as u64);
-    number(a.option as u64);
-    io::write_all(OUT, b"\n");
+}
+
+pub fn check(sheet: &[u8]) -> Checked {
+    Checked(settled(checking::check(sheet)))
+}
+
+pub fn answer(rt: &impl Print, name: &str, sheet: &[u8]) -> io::Result<()> {
+    println!(rt; "{name}: {}", check(sheet))
 }

@@ -4,6 +4,8 @@
 
 #![tactic(auto)]
 
+use std::io;
+
 mod motors;
 mod paper;
 mod refusals;
@@ -11,10 +13,10 @@ mod removals;
 mod show;
 mod small;
 
-fn main() {
-    small::cases();
-    motors::renovations();
-    removals::all();
-    paper::replacements();
-    refusals::all();
+fn main(rt: HostRuntime) -> io::Result<()> {
+    small::cases(&rt)?;
+    motors::renovations(&rt)?;
+    removals::all(&rt)?;
+    paper::replacements(&rt)?;
+    refusals::all(&rt)
 }

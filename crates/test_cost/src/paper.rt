@@ -1,34 +1,38 @@
 // The paper's case study.
 
 use crate::show::answer;
+use std::io;
 use test_sheets::paper::sheet;
-use test_sheets::show::number;
+use test_sheets::show::settled;
 
-const OUT: i32 = 1;
+// The start and the end of each replacement, and what Table 5 has for it, in units: ten thousandths of a euro.
+const TABLE: [(u64, u64, u64); 5] = [
+    (0, 60, 32_376_320_000),
+    (60, 120, 5_476_430_000),
+    (120, 180, 936_950_000),
+    (180, 240, 161_520_000),
+    (240, 300, 27_980_000),
+];
 
-// How far two amounts lie apart.
-fn apart(a: u64, b: u64) -> u64 {
-    if a < b { b - a } else { a - b }
-}
-
-// A replacement, and whether it costs what Table 5 has, give or take less than a euro; the table's figure is given in units.
-fn replacement(s: &[u8], start: u64, end: u64, table: u64) {
-    answer(b"paper", s, 2, start, end);
-    let units = costing::cost(s, 2, start, end).total;
-    io::write_all(OUT, b"  Table 5");
-    number(table / 10_000);
-    if apart(units, table) < 10_000 {
-        io::write_all(OUT, b" euros, less than a euro away\n");
+// A replacement, and whether it costs what the table has, give or take less than a euro.
+fn replacement(rt: &impl Print, s: &[u8], start: u64, end: u64, table: u64) -> io::Result<()> {
+    answer(rt, s, ("paper", 2, start, end))?;
+    let near = match settled(costing::cost(s, 2, start, end)) {
+        Ok(units) => units.abs_diff(table) < 10_000,
+        Err(_) => false,
+    };
+    let apart = if near {
+        "less than a euro away"
     } else {
-        io::write_all(OUT, b" euros, a euro away or more\n");
-    }
+        "a euro away or more"
+    };
+    println!(rt; "  Table 5 {} euros, {apart}", table / 10_000)
 }
 
-pub fn replacements() {
-    let s = sheet();
-    replacement(&s, 0, 60, 32_376_320_000);
-    replacement(&s, 60, 120, 5_476_430_000);
-    replacement(&s, 120, 180, 936_950_000);
-    replacement(&s, 180, 240, 161_520_000);
-    replacement(&s, 240, 300, 27_980_000);
+pub fn replacements(rt: &impl Print) -> io::Result<()> {
+    let s = sheet().0;
+    for (start, end, table) in TABLE {
+        replacement(rt, &s, start, end, table)?;
+    }
+    Ok(())
 }

@@ -1,67 +1,52 @@
 // Document 02, request 6: case 12 with removal 3; a sheet that pays removals alone; one whose eight entries are all used; and a sheet of version 1,
 // where the next record begins with other bytes than 0.
 
-ghost use Rattle.std.specs.Prelude.{◌≤◌};
-
-use crate::show::answer;
-use test_sheets::longer::Removal;
+use crate::show::{Case, answers};
+use std::io;
+use test_sheets::longer::{LongSheet, Removal};
 use test_sheets::removals::{alone, case_12, free};
-use test_sheets::{REPLACE_AT, lives, longer, plain, put8, put16, put32};
+use test_sheets::{REPLACE_AT, longer, plain};
 
-fn replacements(s: &[u8]) {
-    answer(b"case 12 removed", s, 2, 0, 2);
-    answer(b"case 12 removed", s, 2, 2, 4);
-    answer(b"case 12 removed", s, 2, 0, 3);
-}
+const REPLACEMENTS: [Case; 3] = [
+    ("case 12 removed", 2, 0, 2),
+    ("case 12 removed", 2, 2, 4),
+    ("case 12 removed", 2, 0, 3),
+];
 
 // Maintaining pays none, and neither do an end in year T and length 0.
-fn each_option(s: &[u8]) {
-    answer(b"removals alone", s, 0, 0, 1);
-    answer(b"removals alone", s, 1, 1, 2);
-    answer(b"removals alone", s, 1, 1, 3);
-    answer(b"removals alone", s, 1, 2, 4);
-    answer(b"removals alone", s, 1, 1, 1);
-    answer(b"removals alone", s, 2, 1, 3);
-    answer(b"removals alone", s, 2, 2, 4);
+const EACH_OPTION: [Case; 7] = [
+    ("removals alone", 0, 0, 1),
+    ("removals alone", 1, 1, 2),
+    ("removals alone", 1, 1, 3),
+    ("removals alone", 1, 2, 4),
+    ("removals alone", 1, 1, 1),
+    ("removals alone", 2, 1, 3),
+    ("removals alone", 2, 2, 4),
+];
+
+const OVERHAULED: [Case; 2] = [("eight overhauls", 2, 0, 9), ("eight overhauls", 2, 1, 10)];
+
+const VERSION_1: [Case; 3] = [
+    ("no removals", 0, 0, 1),
+    ("no removals", 1, 1, 2),
+    ("no removals", 2, 1, 3),
+];
+
+// Only replace offered, T = 10, r 0, lives 9; all eight overhauls, of 1 at ages 1 to 8, and removal 20 behind them, which as an age is past
+// the life.
+fn eight_overhauls() -> LongSheet {
+    let header = plain().put16(5, 10).put32(7, 0);
+    let mut sheet = header.lives(REPLACE_AT, 9, 9).put8(REPLACE_AT + 40, 8);
+    for j in 0..8 {
+        let entry = REPLACE_AT + 41 + 6 * j;
+        sheet = sheet.put16(entry, j as u16 + 1).put32(entry + 2, 1);
+    }
+    longer::sheet(sheet, Removal::NONE, Removal::NONE, Removal::of(20, 0))
 }
 
-// An overhaul of 1 at age j + 1 as entry j of replace.
-fn overhaul(sheet: [u8; 278], j: usize) -> [u8; 278]
-    requires { j ≤ 7 }
-{
-    let entry = REPLACE_AT + 41 + 6 * j;
-    put32(put16(sheet, entry, j as u64 + 1), entry + 2, 1)
-}
-
-// Only replace offered, T = 10, r 0, lives 9; all eight overhauls, and removal 20 behind them, which as an age is past the life.
-fn eight_overhauls() -> [u8; 302] {
-    let header = put32(put16(plain(), 5, 10), 7, 0);
-    let counted = put8(lives(header, REPLACE_AT, 9, 9), REPLACE_AT + 40, 8);
-    let two = overhaul(overhaul(counted, 0), 1);
-    let four = overhaul(overhaul(two, 2), 3);
-    let six = overhaul(overhaul(four, 4), 5);
-    let all = overhaul(overhaul(six, 6), 7);
-    longer::sheet(all, Removal::none(), Removal::none(), Removal::of(20, 0))
-}
-
-fn overhauled(s: &[u8]) {
-    answer(b"eight overhauls", s, 2, 0, 9);
-    answer(b"eight overhauls", s, 2, 1, 10);
-}
-
-fn version_1(s: &[u8]) {
-    answer(b"no removals", s, 0, 0, 1);
-    answer(b"no removals", s, 1, 1, 2);
-    answer(b"no removals", s, 2, 1, 3);
-}
-
-pub fn all() {
-    let twelfth = case_12();
-    let longer = alone();
-    let eight = eight_overhauls();
-    let shorter = free();
-    replacements(&twelfth);
-    each_option(&longer);
-    overhauled(&eight);
-    version_1(&shorter);
+pub fn all(rt: &impl Print) -> io::Result<()> {
+    answers(rt, &case_12().0, &REPLACEMENTS)?;
+    answers(rt, &alone().0, &EACH_OPTION)?;
+    answers(rt, &eight_overhauls().0, &OVERHAULED)?;
+    answers(rt, &free().0, &VERSION_1)
 }

@@ -1,14 +1,21 @@
 // A case's line: its name and its arc, then what `cost` answers.
 
-use test_sheets::show::{answered, number};
+use std::io;
+use test_sheets::show::{Named, settled};
 
-const OUT: i32 = 1;
+// A case's name, and the option, the start and the end of its arc.
+pub type Case = (&'static str, u64, u64, u64);
 
-pub fn answer(name: &[u8], sheet: &[u8], option: u64, start: u64, end: u64) {
-    let a = costing::cost(sheet, option, start, end);
-    io::write_all(OUT, name);
-    number(option);
-    number(start);
-    number(end);
-    answered(a);
+pub fn answer(rt: &impl Print, sheet: &[u8], case: Case) -> io::Result<()> {
+    let (name, option, start, end) = case;
+    let units = Named("units", settled(costing::cost(sheet, option, start, end)));
+    println!(rt; "{name} {option} {start} {end}: {units}")
+}
+
+// A line for each arc of a sheet.
+pub fn answers(rt: &impl Print, sheet: &[u8], cases: &[Case]) -> io::Result<()> {
+    for &case in cases {
+        answer(rt, sheet, case)?;
+    }
+    Ok(())
 }

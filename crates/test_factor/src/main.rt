@@ -3,62 +3,40 @@
 
 #![tactic(auto)]
 
-use test_sheets::show::{answer_as, number};
+use std::io;
+use test_sheets::show::{Named, settled};
 
-const OUT: i32 = 1;
+const USUAL: [u64; 9] = [
+    19_999, 20_000, 20_001, 30_000, 39_999, 40_000, 40_001, 50_000, 50_001,
+];
 
-const FAR: u64 = 18_446_744_073_709_551_615;
+const OTHERS: [u64; 6] = [0, 1, 10_000, 60_000, 199_999, 200_000];
 
-fn answer(rate: u64, year: u64) {
-    io::write_all(OUT, b"rate");
-    number(rate);
-    io::write_all(OUT, b" year");
-    number(year);
-    answer_as(b": factor", yearbook::factor(rate, year));
-    io::write_all(OUT, b"\n");
+const REFUSED: [u64; 3] = [200_001, 4_294_967_296 + 40_000, u64::MAX];
+
+const YEARS: [u64; 9] = [0, 1, 2, 3, 150, 299, 300, 301, u64::MAX];
+
+fn answer(rt: &impl Print, rate: u64, year: u64) -> io::Result<()> {
+    let factor = Named("factor", settled(yearbook::factor(rate, year)));
+    println!(rt; "rate {rate} year {year}: {factor}")
 }
 
-fn years(rate: u64) {
-    answer(rate, 0);
-    answer(rate, 1);
-    answer(rate, 2);
-    answer(rate, 3);
-    answer(rate, 150);
-    answer(rate, 299);
-    answer(rate, 300);
-    answer(rate, 301);
-    answer(rate, FAR);
+fn years(rt: &impl Print, rate: u64) -> io::Result<()> {
+    for year in YEARS {
+        answer(rt, rate, year)?;
+    }
+    Ok(())
 }
 
-fn usual() {
-    years(19_999);
-    years(20_000);
-    years(20_001);
-    years(30_000);
-    years(39_999);
-    years(40_000);
-    years(40_001);
-    years(50_000);
-    years(50_001);
+fn rates(rt: &impl Print, rates: &[u64]) -> io::Result<()> {
+    for &rate in rates {
+        years(rt, rate)?;
+    }
+    Ok(())
 }
 
-fn others() {
-    years(0);
-    years(1);
-    years(10_000);
-    years(60_000);
-    years(199_999);
-    years(200_000);
-}
-
-fn refused() {
-    years(200_001);
-    years(4_294_967_296 + 40_000);
-    years(FAR);
-}
-
-fn main() {
-    usual();
-    others();
-    refused();
+fn main(rt: HostRuntime) -> io::Result<()> {
+    rates(&rt, &USUAL)?;
+    rates(&rt, &OTHERS)?;
+    rates(&rt, &REFUSED)
 }

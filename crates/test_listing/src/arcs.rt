@@ -2,30 +2,25 @@
 // service since year `since`. Every payment is stepped from year 0 by itself.
 
 use crate::figures::{Overhauls, Removal, Terms, Yearly};
-use crate::numbers::{minus, plus};
 use crate::stepping::{in_service, plain, units};
 
 fn yearly(y: Yearly, rate: u64, since: u64, start: u64, years: u64) -> u64 {
-    let mut sum = 0;
+    let mut sum = 0u64;
     for k in 0..years {
         let then = plain(units(y.amount), y.growth, rate, since);
-        let served = minus(plus(start, plus(k, 1)), since);
-        sum = plus(sum, in_service(then, y, rate, served));
+        let served = start.wrapping_add(k + 1).wrapping_sub(since);
+        sum = sum.wrapping_add(in_service(then, y, rate, served));
     }
     sum
 }
 
 // The overhauls of age less than the length.
 fn overhauls(o: Overhauls, rate: u64, start: u64, years: u64) -> u64 {
-    let ages = o.ages;
-    let amounts = o.amounts;
-    let mut sum = 0;
-    for k in 0..8 {
-        if k < o.count {
-            if ages[k] < years {
-                let paid = plain(units(amounts[k]), o.growth, rate, plus(start, ages[k]));
-                sum = plus(sum, paid);
-            }
+    let mut sum = 0u64;
+    for entry in o.entries.iter().take(o.count) {
+        if entry.age < years {
+            let year = start.wrapping_add(entry.age);
+            sum = sum.wrapping_add(plain(units(entry.amount), o.growth, rate, year));
         }
     }
     sum
@@ -40,7 +35,8 @@ pub fn arc(o: Terms, rate: u64, since: u64, start: u64, years: u64) -> u64 {
     let overhauled = overhauls(o.overhauls, rate, start, years);
     let maintained = yearly(o.maintenance, rate, start, start, years);
     let powered = yearly(o.electricity, rate, since, start, years);
-    plus(plus(invested, overhauled), plus(maintained, powered))
+    let yearly = maintained.wrapping_add(powered);
+    invested.wrapping_add(overhauled).wrapping_add(yearly)
 }
 
 // Paid in the end year, if that is before T.
@@ -57,5 +53,5 @@ pub fn renewal(o: Terms, rate: u64, since: u64, start: u64, years: u64, horizon:
         return 0;
     }
     let kept = arc(o, rate, since, start, years);
-    plus(kept, removed(o.removal, rate, plus(start, years), horizon))
+    kept.wrapping_add(removed(o.removal, rate, start.wrapping_add(years), horizon))
 }

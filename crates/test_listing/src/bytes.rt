@@ -16,36 +16,32 @@ impl Bytes {
     }
 
     fn with_byte(self, byte: u8) -> Bytes {
-        let at = self.at;
-        if 302 <= at {
-            return self;
-        }
         let mut next = self;
-        next.bytes[at] = byte;
-        next.at = at + 1;
+        if let Some(place) = next.bytes.get_mut(self.at) {
+            *place = byte;
+            next.at = self.at + 1;
+        }
         next
     }
 
-    pub fn with_mark(self, mark: &[u8; 3]) -> Bytes {
-        self.with_byte(mark[0])
-            .with_byte(mark[1])
-            .with_byte(mark[2])
+    pub fn with(self, field: &[u8]) -> Bytes {
+        field.iter().fold(self, |next, &byte| next.with_byte(byte))
     }
 
     // The low byte of a value, the lowest two, four or eight.
     pub fn with8(self, value: u64) -> Bytes {
-        self.with_byte((value % 256) as u8)
+        self.with(&value.to_le_bytes()[..1])
     }
 
     pub fn with16(self, value: u64) -> Bytes {
-        self.with8(value).with8(value / 256)
+        self.with(&value.to_le_bytes()[..2])
     }
 
     pub fn with32(self, value: u64) -> Bytes {
-        self.with16(value).with16(value / 65_536)
+        self.with(&value.to_le_bytes()[..4])
     }
 
     pub fn with64(self, value: u64) -> Bytes {
-        self.with32(value).with32(value / 4_294_967_296)
+        self.with(&value.to_le_bytes())
     }
 }

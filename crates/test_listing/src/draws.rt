@@ -9,9 +9,9 @@ pub fn next_sheet(seed: u64) -> u64 {
 pub fn draws(seed: u64) -> [u64; 32] {
     let mut drawn = [0; 32];
     let mut x = seed;
-    for k in 0..32 {
+    for draw in &mut drawn {
         x = x % PRIME * 48_271 % PRIME;
-        drawn[k] = x;
+        *draw = x;
     }
     drawn
 }

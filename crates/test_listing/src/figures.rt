@@ -9,13 +9,18 @@ pub struct Yearly {
     pub ageing: u64,
 }
 
-// Ages and amounts at or past the count are 0.
+#[derive(Clone, Copy)]
+pub struct Overhaul {
+    pub age: u64,
+    pub amount: u64,
+}
+
+// Entries at or past the count are 0.
 #[derive(Clone, Copy)]
 pub struct Overhauls {
     pub growth: u64,
     pub count: usize,
-    pub ages: [u64; 8],
-    pub amounts: [u64; 8],
+    pub entries: [Overhaul; 8],
 }
 
 // 0 and without inflation on a sheet of version 1, which has no removals.

@@ -1,112 +1,105 @@
 // All chains of a sheet, one after the other: i, j, and every set of years from j + 1 to T as the end years.
 
-use crate::chains::{Chain, Price, preferred, priced, replaced};
+use crate::chains::{Chain, priced, replaced};
 use crate::figures::Figures;
-use crate::numbers::{at_most, minus, plus};
 
-// How many sets of years there are among so many years.
-const SETS: [u64; 9] = [1, 2, 4, 8, 16, 32, 64, 128, 256];
-
-// The feasible chains so far: how many, the chain taken, its total, and how many have that total.
+// The chain taken, its total, and how many chains have that total.
 #[derive(Clone, Copy)]
-pub struct Best {
-    pub listed: u64,
+pub struct Least {
     pub chain: Chain,
     pub total: u64,
     pub sharing: u64,
 }
 
-impl Best {
-    fn new() -> Best {
-        Best {
-            listed: 0,
-            chain: Chain::of(0, 0, 0),
-            total: 0,
-            sharing: 0,
+impl Least {
+    // The same after another chain.
+    fn with(self, chain: Chain, total: u64) -> Least {
+        let mut next = self;
+        if total < self.total {
+            return Least::first(chain, total);
         }
+        if total == self.total {
+            next.sharing = self.sharing.wrapping_add(1);
+            next.chain = chain.max(self.chain);
+        }
+        next
     }
 
-    // The first feasible chain, or one of a smaller total.
-    fn taking(self, chain: Chain, total: u64) -> Best {
-        Best {
-            listed: plus(self.listed, 1),
-            chain: chain,
-            total: total,
+    fn first(chain: Chain, total: u64) -> Least {
+        Least {
+            chain,
+            total,
             sharing: 1,
         }
     }
+}
 
-    // A chain of the least total so far.
-    fn tied(self, chain: Chain) -> Best {
-        let mut next = self;
-        next.listed = plus(self.listed, 1);
-        next.sharing = plus(self.sharing, 1);
-        if preferred(chain, self.chain) {
-            next.chain = chain;
-        }
-        next
-    }
+// The feasible chains so far: how many, and the least.
+#[derive(Clone, Copy)]
+pub struct Listed {
+    pub count: u64,
+    pub least: Option<Least>,
+}
 
-    // A chain of a larger total.
-    fn passing(self) -> Best {
-        let mut next = self;
-        next.listed = plus(self.listed, 1);
-        next
-    }
+impl Listed {
+    const NONE: Listed = Listed {
+        count: 0,
+        least: None,
+    };
 
-    fn with(self, chain: Chain, p: Price) -> Best {
-        if !p.feasible {
+    // The same after another chain, with its total if it is feasible.
+    fn with(self, chain: Chain, total: Option<u64>) -> Listed {
+        let Some(total) = total else {
             return self;
+        };
+        let least = match self.least {
+            Some(least) => least.with(chain, total),
+            None => Least::first(chain, total),
+        };
+        Listed {
+            count: self.count.wrapping_add(1),
+            least: Some(least),
         }
-        if self.listed == 0 {
-            return self.taking(chain, p.total);
-        }
-        if p.total < self.total {
-            return self.taking(chain, p.total);
-        }
-        if p.total == self.total {
-            return self.tied(chain);
-        }
-        self.passing()
     }
 }
 
-fn sets(years: u64) -> u64 {
-    SETS[at_most(years, 8) as usize]
+// How many sets of years there are from a year on to T, of which each is a number in base two. T is at most 8.
+fn sets(f: Figures, year: u64) -> u64 {
+    1 << f.horizon.wrapping_sub(year).min(8)
 }
 
-fn over_ends(f: Figures, before: Best, i: u64, j: u64) -> Best {
-    let mut best = before;
-    for digits in 0..sets(minus(f.horizon, j)) {
+fn over_ends(f: Figures, before: Listed, i: u64, j: u64) -> Listed {
+    let mut listed = before;
+    for digits in 0..sets(f, j) {
         let chain = Chain::of(i, j, digits);
-        best = best.with(chain, priced(f, chain));
+        listed = listed.with(chain, priced(f, chain));
     }
-    best
+    listed
 }
 
-fn over_j(f: Figures, before: Best, i: u64) -> Best {
-    let mut best = before;
+fn over_j(f: Figures, before: Listed, i: u64) -> Listed {
+    let mut listed = before;
     for j in i..=f.horizon {
-        best = over_ends(f, best, i, j);
+        listed = over_ends(f, listed, i, j);
     }
-    best
+    listed
 }
 
 // The chains from 0 to T.
-pub fn chains(f: Figures) -> Best {
-    let mut best = Best::new();
+pub fn chains(f: Figures) -> Listed {
+    let mut listed = Listed::NONE;
     for i in 0..=f.horizon {
-        best = over_j(f, best, i);
+        listed = over_j(f, listed, i);
     }
-    best
+    listed
 }
 
 // The lists of replacements alone, from a year to T.
-pub fn replacements(f: Figures, year: u64) -> Best {
-    let mut best = Best::new();
-    for digits in 0..sets(minus(f.horizon, year)) {
+pub fn replacements(f: Figures, year: u64) -> Listed {
+    let mut listed = Listed::NONE;
+    for digits in 0..sets(f, year) {
         let chain = Chain::of(0, year, digits);
-        best = best.with(chain, replaced(f, chain));
+        listed = listed.with(chain, replaced(f, chain));
     }
-    best
+    listed
 }

@@ -15,7 +15,6 @@ mod draws;
 mod expected;
 mod figures;
 mod listing;
-mod numbers;
 mod rates;
 mod sheets;
 mod show;
@@ -23,15 +22,16 @@ mod stepping;
 mod written;
 
 use compared::Tally;
+use std::io;
 
 const SHEETS: u64 = 600;
 
-fn main() {
+fn main(rt: HostRuntime) -> io::Result<()> {
     let mut seed = 1;
-    let mut tally = Tally::new();
+    let mut tally = Tally::NONE;
     for number in 0..SHEETS {
         seed = draws::next_sheet(seed);
-        tally = compared::compare(tally, number, sheets::figures(seed));
+        tally = compared::compare(&rt, tally, number, sheets::figures(seed))?;
     }
-    show::tally(tally);
+    println!(rt; "{tally}")
 }

@@ -1,7 +1,5 @@
 // Rates and amounts that pass the checks.
 
-use crate::numbers::{at_most, minus, plus};
-
 // What is drawn once for a sheet: the rate r; whether all its inflations and ageings are 0; and the number that amounts stay below.
 #[derive(Clone, Copy)]
 pub struct Manner {
@@ -11,16 +9,12 @@ pub struct Manner {
 }
 
 fn scale(x: u64) -> u64 {
-    if x % 4 == 0 {
-        return 2;
+    match x % 4 {
+        0 => 2,
+        1 => 4,
+        2 => 5_000,
+        _ => 1_000_000_001,
     }
-    if x % 4 == 1 {
-        return 4;
-    }
-    if x % 4 == 2 {
-        return 5_000;
-    }
-    1_000_000_001
 }
 
 // On about every second sheet nothing is discounted and no amount changes, so that totals are often equal.
@@ -28,7 +22,7 @@ pub fn manner_of(a: u64, b: u64, c: u64) -> Manner {
     let flat = a % 2 == 0;
     Manner {
         rate: if flat { 0 } else { c % 200_001 },
-        flat: flat,
+        flat,
         scale: scale(b),
     }
 }
@@ -38,23 +32,19 @@ pub fn growth(m: Manner, kind: u64, x: u64) -> u64 {
     if m.flat {
         return 1_000_000;
     }
-    if kind % 4 == 0 {
-        return 1_000_000;
+    let rate = m.rate.min(200_000);
+    match kind % 4 {
+        0 => 1_000_000,
+        1 => 1_000_000 + rate,
+        _ => 900_000 + x % (100_001 + rate),
     }
-    let rate = at_most(m.rate, 200_000);
-    if kind % 4 == 1 {
-        return 1_000_000 + rate;
-    }
-    plus(900_000, x % (100_001 + rate))
 }
 
 // The largest g that passes check 8.
 fn most_ageing(m: Manner, growth: u64) -> u64 {
-    if growth == 0 {
-        return 0;
-    }
-    let room = 1_000_000 * (1_000_000 + at_most(m.rate, 200_000)) / growth;
-    at_most(minus(room, 1_000_000), 300_000)
+    let room = 1_000_000 * (1_000_000 + m.rate.min(200_000));
+    room.checked_div(growth)
+        .map_or(0, |most| most.wrapping_sub(1_000_000).min(300_000))
 }
 
 // 1,000,000 + g: g is 0, the largest or any.
@@ -62,22 +52,17 @@ pub fn ageing(m: Manner, growth: u64, kind: u64, x: u64) -> u64 {
     if m.flat {
         return 1_000_000;
     }
-    let most = at_most(most_ageing(m, growth), 300_000);
-    if kind % 4 == 0 {
-        return 1_000_000;
+    let most = most_ageing(m, growth).min(300_000);
+    match kind % 4 {
+        0 => 1_000_000,
+        1 => 1_000_000 + most,
+        _ => 1_000_000 + x % (most + 1),
     }
-    if kind % 4 == 1 {
-        return 1_000_000 + most;
-    }
-    plus(1_000_000, x % (most + 1))
 }
 
 pub fn amount(m: Manner, kind: u64, x: u64) -> u64 {
     if kind % 3 == 0 {
         return 0;
     }
-    if m.scale == 0 {
-        return 0;
-    }
-    x % m.scale
+    x.checked_rem(m.scale).unwrap_or(0)
 }

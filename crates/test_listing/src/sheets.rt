@@ -1,8 +1,7 @@
 // The sheets, made from draws.
 
 use crate::draws::draws;
-use crate::figures::{Figures, NO_REMOVAL, Overhauls, Removal, Terms, Yearly};
-use crate::numbers::at_most;
+use crate::figures::{Figures, NO_REMOVAL, Overhaul, Overhauls, Removal, Terms, Yearly};
 use crate::rates::{Manner, ageing, amount, growth, manner_of};
 
 fn yearly(m: Manner, a: u64, b: u64, c: u64, d: u64) -> Yearly {
@@ -14,33 +13,25 @@ fn yearly(m: Manner, a: u64, b: u64, c: u64, d: u64) -> Yearly {
     }
 }
 
-// An entry that is used, or 0.
-fn used(k: usize, count: usize, x: u64) -> u64 {
-    if k < count { x } else { 0 }
-}
-
+// At most three entries, with ages that rise.
 fn overhauls(m: Manner, drawn: [u64; 32]) -> Overhauls {
     let count = (drawn[16] % 4) as usize;
     let first = 1 + drawn[17] % 3;
     let second = first + 1 + drawn[18] % 3;
     let third = second + 1 + drawn[19] % 3;
-    let a = used(0, count, amount(m, drawn[20], drawn[21]));
-    let b = used(1, count, amount(m, drawn[22], drawn[23]));
-    let c = used(2, count, amount(m, drawn[24], drawn[25]));
+    let drawn_entries = [
+        (first, amount(m, drawn[20], drawn[21])),
+        (second, amount(m, drawn[22], drawn[23])),
+        (third, amount(m, drawn[24], drawn[25])),
+    ];
+    let mut entries = [Overhaul { age: 0, amount: 0 }; 8];
+    for (entry, &(age, amount)) in entries.iter_mut().zip(drawn_entries.iter().take(count)) {
+        *entry = Overhaul { age, amount };
+    }
     Overhauls {
         growth: growth(m, drawn[26], drawn[27]),
-        count: count,
-        ages: [
-            used(0, count, first),
-            used(1, count, second),
-            used(2, count, third),
-            0,
-            0,
-            0,
-            0,
-            0,
-        ],
-        amounts: [a, b, c, 0, 0, 0, 0, 0],
+        count,
+        entries,
     }
 }
 
@@ -56,25 +47,23 @@ fn removal(m: Manner, drawn: [u64; 32], version: u64) -> Removal {
 
 // One option in five is not offered.
 fn shortest_life(kind: u64, x: u64) -> u64 {
-    if kind % 5 == 0 {
-        return 0;
+    match kind % 5 {
+        0 => 0,
+        1 => 1 + x % 4,
+        _ => 1 + x % 2,
     }
-    if kind % 5 == 1 {
-        return 1 + x % 4;
-    }
-    1 + x % 2
 }
 
 fn terms(m: Manner, drawn: [u64; 32], version: u64) -> Terms {
-    let shortest = at_most(shortest_life(drawn[0], drawn[1]), 4);
+    let shortest = shortest_life(drawn[0], drawn[1]).min(4);
     let longest = if shortest == 0 {
         0
     } else {
         shortest + drawn[2] % 6
     };
     Terms {
-        shortest: shortest,
-        longest: longest,
+        shortest,
+        longest,
         investment: amount(m, drawn[3], drawn[4]),
         growth: growth(m, drawn[5], drawn[6]),
         maintenance: yearly(m, drawn[8], drawn[9], drawn[10], drawn[11]),
@@ -93,8 +82,8 @@ pub fn figures(seed: u64) -> Figures {
     let m = manner_of(drawn[1], drawn[2], drawn[3]);
     let version = 1 + drawn[5] % 2;
     Figures {
-        version: version,
-        horizon: 1 + at_most(drawn[4] % 10, 7),
+        version,
+        horizon: 1 + (drawn[4] % 10).min(7),
         rate: m.rate,
         maintain: terms(m, first, version),
         renovate: terms(m, second, version),

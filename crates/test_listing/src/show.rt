@@ -1,35 +1,25 @@
 // The lines: one for each difference, and the counts.
 
 use crate::compared::Tally;
-
-const OUT: i32 = 1;
-
-fn line(name: &[u8], n: u64) {
-    io::write_all(OUT, name);
-    io::write_all(OUT, b" ");
-    io::print_decimal(OUT, n);
-    io::write_all(OUT, b"\n");
-}
+use std::{fmt, io};
 
 // 1, and a line with the sheet's number and what differs; or 0.
-pub fn differs(number: u64, what: &[u8], same: bool) -> u64 {
-    if same {
-        return 0;
+pub fn differs(rt: &impl Print, number: u64, what: &str, same: bool) -> io::Result<u64> {
+    if !same {
+        println!(rt; "{what} differs on sheet {number}")?;
     }
-    io::write_all(OUT, what);
-    io::write_all(OUT, b" differs on sheet ");
-    io::print_decimal(OUT, number);
-    io::write_all(OUT, b"\n");
-    1
+    Ok(u64::from(!same))
 }
 
-pub fn tally(t: Tally) {
-    line(b"sheets", t.sheets);
-    line(b"version 2", t.version_2);
-    line(b"feasible", t.feasible);
-    line(b"refused", t.refused);
-    line(b"ties", t.ties);
-    line(b"changed by removals", t.changed);
-    line(b"chains", t.chains);
-    line(b"differences", t.differences);
+impl fmt::Display for Tally {
+    fn fmt<W: fmt::Write>(&self, f: &mut fmt::Formatter<W>) -> fmt::Result {
+        writeln!(f, "sheets {}", self.sheets)?;
+        writeln!(f, "version 2 {}", self.version_2)?;
+        writeln!(f, "feasible {}", self.feasible)?;
+        writeln!(f, "refused {}", self.refused)?;
+        writeln!(f, "ties {}", self.ties)?;
+        writeln!(f, "changed by removals {}", self.changed)?;
+        writeln!(f, "chains {}", self.chains)?;
+        write!(f, "differences {}", self.differences)
+    }
 }

@@ -4,12 +4,11 @@ ghost use Rattle.std.specs.Prelude.{◌≤◌};
 
 use crate::bytes::Bytes;
 use crate::figures::{Figures, Overhauls, Removal, Terms, Yearly};
-use crate::numbers::minus;
 
 impl Bytes {
     // An inflation or an ageing, from 1,000,000 more: the low four bytes of the difference, also of a negative one.
     fn with_rate(self, factor: u64) -> Bytes {
-        self.with32(minus(factor, 1_000_000))
+        self.with32(factor.wrapping_sub(1_000_000))
     }
 
     fn with_yearly(self, y: Yearly) -> Bytes {
@@ -19,11 +18,9 @@ impl Bytes {
     }
 
     fn with_overhauls(self, o: Overhauls) -> Bytes {
-        let ages = o.ages;
-        let amounts = o.amounts;
         let mut b = self.with_rate(o.growth).with8(o.count as u64);
-        for k in 0..8 {
-            b = b.with16(ages[k]).with32(amounts[k]);
+        for entry in &o.entries {
+            b = b.with16(entry.age).with32(entry.amount);
         }
         b
     }
@@ -54,7 +51,7 @@ pub fn sheet_length(version: u64) -> usize
 
 // The sheet is the first bytes, as many as its version has.
 pub fn sheet(f: Figures) -> [u8; 302] {
-    let mark = Bytes::new(0).with_mark(b"RCS");
+    let mark = Bytes::new(0).with(b"RCS");
     let header = mark.with16(f.version).with16(f.horizon).with32(f.rate);
     let whole = header
         .with_terms(f.maintain, f.version)

@@ -1,97 +1,76 @@
 // The words that `plan` lends, a line a year: document 01's cases 9 to 12; the paper's case study, and its sheet with replace not offered.
 
-use crate::show::{heading, kept, year};
-use test_sheets::paper::sheet;
-use test_sheets::{REPLACE_AT, document, lives};
+ghost use Rattle.std.specs.Prelude.{◌≤◌};
 
-// The words after planning, one more than it wants; they hold 7 before.
+use crate::show::{kept, year};
+use std::io;
+use test_sheets::paper::sheet;
+use test_sheets::{REPLACE_AT, document};
+
+// The words after planning, one more than it wants; they hold 7 before. What it answers is printed by the cases of plans.
 fn lent(sheet: &[u8]) -> [u64; 302] {
-    let mut plan = [0u8; 619];
-    let mut words = [7u64; 302];
-    planner::plan(sheet, &mut plan, &mut words);
+    let mut plan = [0; 619];
+    let mut words = [7; 302];
+    let _ = planner::plan(sheet, &mut plan, &mut words);
     words
 }
 
-// Years that every case has.
-fn years_0_to_3(words: [u64; 302]) {
-    year(words, 0);
-    year(words, 1);
-    year(words, 2);
-    year(words, 3);
+// The words of the first years up to one, under the case's name.
+fn years_to(rt: &impl Print, name: &str, words: &[u64; 302], last: usize) -> io::Result<()>
+    requires { last ≤ 300 }
+{
+    println!(rt; "{name}")?;
+    for y in 0..=last {
+        year(rt, words, y)?;
+    }
+    Ok(())
 }
 
 // No replacements lead from 0 to T.
-fn case_9() {
-    let sheet = document::case_9();
-    let words = lent(&sheet);
-    heading(b"case 9, words");
-    years_0_to_3(words);
-    year(words, 4);
-    year(words, 5);
+fn case_9(rt: &impl Print) -> io::Result<()> {
+    years_to(rt, "case 9, words", &lent(&document::case_9().0), 5)
 }
 
 // Every total is 0.
-fn case_10() {
-    let sheet = document::case_10();
-    let words = lent(&sheet);
-    heading(b"case 10, words");
-    years_0_to_3(words);
-    year(words, 4);
-    year(words, 5);
-    year(words, 6);
-    year(words, 7);
+fn case_10(rt: &impl Print) -> io::Result<()> {
+    years_to(rt, "case 10, words", &lent(&document::case_10().0), 7)
 }
 
 // Words past T keep their content.
-fn case_11() {
-    let sheet = document::case_11();
-    let words = lent(&sheet);
-    heading(b"case 11, words");
-    years_0_to_3(words);
-    kept(words);
+fn case_11(rt: &impl Print) -> io::Result<()> {
+    let words = lent(&document::case_11().0);
+    years_to(rt, "case 11, words", &words, 3)?;
+    kept(rt, &words)
 }
 
-pub fn years_0_to_4(name: &[u8], sheet: &[u8]) {
-    let words = lent(sheet);
-    heading(name);
-    years_0_to_3(words);
-    year(words, 4);
+pub fn years_0_to_4(rt: &impl Print, name: &str, sheet: &[u8]) -> io::Result<()> {
+    years_to(rt, name, &lent(sheet), 4)
 }
 
-fn case_12() {
-    let sheet = document::case_12();
-    years_0_to_4(b"case 12, words", &sheet);
-}
-
-pub fn cases() {
-    case_9();
-    case_10();
-    case_11();
-    case_12();
+pub fn cases(rt: &impl Print) -> io::Result<()> {
+    case_9(rt)?;
+    case_10(rt)?;
+    case_11(rt)?;
+    years_0_to_4(rt, "case 12, words", &document::case_12().0)
 }
 
 // Where the replacements of the case study start, and its last years.
-pub fn years_to_300(name: &[u8], sheet: &[u8]) {
+pub fn years_to_300(rt: &impl Print, name: &str, sheet: &[u8]) -> io::Result<()> {
     let words = lent(sheet);
-    heading(name);
-    year(words, 0);
-    year(words, 60);
-    year(words, 120);
-    year(words, 180);
-    year(words, 240);
-    year(words, 299);
-    year(words, 300);
+    println!(rt; "{name}")?;
+    for y in [0, 60, 120, 180, 240, 299, 300] {
+        year(rt, &words, y)?;
+    }
+    Ok(())
 }
 
-pub fn replacements() {
-    let s = sheet();
-    years_to_300(b"paper, words", &s);
+pub fn replacements(rt: &impl Print) -> io::Result<()> {
+    years_to_300(rt, "paper, words", &sheet().0)
 }
 
-pub fn none() {
-    let s = lives(sheet(), REPLACE_AT, 0, 0);
-    let words = lent(&s);
-    heading(b"paper, replace not offered, words");
-    year(words, 299);
-    year(words, 300);
+pub fn none(rt: &impl Print) -> io::Result<()> {
+    let words = lent(&sheet().lives(REPLACE_AT, 0, 0).0);
+    println!(rt; "paper, replace not offered, words")?;
+    year(rt, &words, 299)?;
+    year(rt, &words, 300)
 }

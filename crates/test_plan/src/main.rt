@@ -4,6 +4,8 @@
 
 #![tactic(auto)]
 
+use std::io;
+
 mod document;
 mod faulty;
 mod lent_words;
@@ -13,18 +15,18 @@ mod postponed;
 mod removals;
 mod show;
 
-fn main() {
-    document::cases();
-    paper::replacements();
-    paper::none();
-    postponed::all_free();
-    postponed::maintained();
-    postponed::motors();
-    removals::plans();
-    document::lengths();
-    faulty::sheets();
-    lent_words::cases();
-    lent_words::replacements();
-    lent_words::none();
-    removals::words();
+fn main(rt: HostRuntime) -> io::Result<()> {
+    document::cases(&rt)?;
+    paper::replacements(&rt)?;
+    paper::none(&rt)?;
+    postponed::all_free(&rt)?;
+    postponed::maintained(&rt)?;
+    postponed::motors(&rt)?;
+    removals::plans(&rt)?;
+    document::lengths(&rt)?;
+    faulty::sheets(&rt)?;
+    lent_words::cases(&rt)?;
+    lent_words::replacements(&rt)?;
+    lent_words::none(&rt)?;
+    removals::words(&rt)
 }

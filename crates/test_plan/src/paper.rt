@@ -2,26 +2,25 @@
 // not offered.
 
 use crate::planned::{amply, in_buffers};
-use crate::show::priced;
+use std::io;
+use test_sheets::REPLACE_AT;
 use test_sheets::paper::sheet;
-use test_sheets::{REPLACE_AT, lives};
+use test_sheets::show::{Named, settled};
 
 // Its five replacements fill 29 bytes, so the whole buffer is the plan that is priced.
-pub fn five_replacements(name: &[u8], sheet: &[u8]) {
-    let mut plan = [0u8; 29];
-    let mut words = [0u64; 301];
-    in_buffers(name, sheet, &mut plan, &mut words);
-    let a = pricing::price(sheet, &plan);
-    priced(a);
+pub fn five_replacements(rt: &impl Print, name: &str, sheet: &[u8]) -> io::Result<()> {
+    let mut plan = [0; 29];
+    let mut words = [0; 301];
+    in_buffers(rt, name, sheet, &mut plan, &mut words)?;
+    let priced = Named("priced", settled(pricing::price(sheet, &plan)));
+    println!(rt; "{priced}")
 }
 
-pub fn replacements() {
-    let s = sheet();
-    five_replacements(b"paper", &s);
+pub fn replacements(rt: &impl Print) -> io::Result<()> {
+    five_replacements(rt, "paper", &sheet().0)
 }
 
 // Maintaining for 15 years and renovating for 30 ends in year 45, of 300.
-pub fn none() {
-    let s = lives(sheet(), REPLACE_AT, 0, 0);
-    amply(b"paper, replace not offered", &s);
+pub fn none(rt: &impl Print) -> io::Result<()> {
+    amply(rt, "paper, replace not offered", &sheet().lives(REPLACE_AT, 0, 0).0)
 }

@@ -4,26 +4,19 @@
 use crate::lent_words::{years_0_to_4, years_to_300};
 use crate::paper::five_replacements;
 use crate::planned::amply;
+use std::io;
 use test_sheets::removals;
 
-pub fn plans() {
-    let twelfth = removals::case_12();
-    let alone = removals::alone();
-    let without = removals::overhauled(0);
-    let with = removals::overhauled(6);
-    let study = removals::case_study();
-    amply(b"case 12 removed", &twelfth);
-    amply(b"removals alone", &alone);
-    amply(b"overhauled", &without);
-    amply(b"overhauled, removal 6", &with);
-    five_replacements(b"paper removed", &study);
+pub fn plans(rt: &impl Print) -> io::Result<()> {
+    amply(rt, "case 12 removed", &removals::case_12().0)?;
+    amply(rt, "removals alone", &removals::alone().0)?;
+    amply(rt, "overhauled", &removals::overhauled(0).0)?;
+    amply(rt, "overhauled, removal 6", &removals::overhauled(6).0)?;
+    five_replacements(rt, "paper removed", &removals::case_study().0)
 }
 
-pub fn words() {
-    let twelfth = removals::case_12();
-    let alone = removals::alone();
-    let study = removals::case_study();
-    years_0_to_4(b"case 12 removed, words", &twelfth);
-    years_0_to_4(b"removals alone, words", &alone);
-    years_to_300(b"paper removed, words", &study);
+pub fn words(rt: &impl Print) -> io::Result<()> {
+    years_0_to_4(rt, "case 12 removed, words", &removals::case_12().0)?;
+    years_0_to_4(rt, "removals alone, words", &removals::alone().0)?;
+    years_to_300(rt, "paper removed, words", &removals::case_study().0)
 }

@@ -4,13 +4,15 @@
 
 #![tactic(auto)]
 
+use std::io;
+
 mod chains;
 mod refusals;
 mod removals;
 mod show;
 
-fn main() {
-    chains::priced();
-    removals::all();
-    refusals::all();
+fn main(rt: HostRuntime) -> io::Result<()> {
+    chains::priced(&rt)?;
+    removals::all(&rt)?;
+    refusals::all(&rt)
 }

@@ -2,77 +2,82 @@
 // first.
 
 use crate::show::answer;
+use std::io;
 use test_sheets::REPLACE_AT;
 use test_sheets::paper::sheet;
-use test_sheets::plans::{plan, put16};
+use test_sheets::plans::Plan;
 
-fn lengths(s: &[u8]) {
-    let p = plan(0, 0, 5, [60, 120, 180, 240, 300, 0]);
-    answer(b"no byte", s, &p[0..0]);
-    answer(b"18 bytes", s, &p[0..18]);
-    answer(b"28 bytes of 29", s, &p[0..28]);
-    answer(b"29 bytes of 29", s, &p[0..29]);
-    answer(b"30 bytes of 29", s, &p[0..30]);
-    answer(b"31 bytes of 29", s, &p[0..31]);
+// The plan of least total, of 29 bytes.
+fn least() -> Plan {
+    Plan::of(0, 0, &[60, 120, 180, 240, 300])
 }
 
-fn fields(s: &[u8]) {
-    let p = plan(0, 0, 5, [60, 120, 180, 240, 300, 0]);
-    let marked = put16(p, 1, 67 + 256 * 83);
-    let version = put16(p, 3, 2);
-    let many = put16(p, 17, 65_535);
-    answer(b"mark RCS", s, &marked[0..29]);
-    answer(b"version 2", s, &version[0..29]);
-    answer(b"m 65535", s, &many[0..29]);
+fn lengths(rt: &impl Print, s: &[u8]) -> io::Result<()> {
+    let p = least();
+    answer(rt, "no byte", s, p.first(0))?;
+    answer(rt, "18 bytes", s, p.first(18))?;
+    answer(rt, "28 bytes of 29", s, p.first(28))?;
+    answer(rt, "29 bytes of 29", s, p.first(29))?;
+    answer(rt, "30 bytes of 29", s, p.first(30))?;
+    answer(rt, "31 bytes of 29", s, p.first(31))
 }
 
-fn years(s: &[u8]) {
-    let before = plan(0, 0, 5, [60, 120, 180, 240, 299, 0]);
-    let past = plan(0, 0, 5, [60, 120, 180, 241, 301, 0]);
-    let equal = plan(0, 0, 6, [60, 120, 120, 180, 240, 300]);
-    let falling = plan(0, 0, 6, [60, 120, 119, 179, 240, 300]);
-    answer(b"ends before T", s, &before[0..29]);
-    answer(b"ends past T", s, &past[0..29]);
-    answer(b"equal ends", s, &equal[0..31]);
-    answer(b"ends that fall", s, &falling[0..31]);
+fn fields(rt: &impl Print, s: &[u8]) -> io::Result<()> {
+    let marked = least().put16(1, 67 + 256 * 83);
+    let version = least().put16(3, 2);
+    let many = least().put16(17, 65_535);
+    answer(rt, "mark RCS", s, marked.bytes())?;
+    answer(rt, "version 2", s, version.bytes())?;
+    answer(rt, "m 65535", s, many.bytes())
 }
 
-fn lives(s: &[u8]) {
-    let maintained = plan(15, 15, 5, [60, 120, 180, 240, 300, 0]);
-    let longer = plan(16, 16, 5, [60, 120, 180, 240, 300, 0]);
-    let renovated = plan(15, 45, 5, [60, 120, 180, 240, 300, 0]);
-    let renewed = plan(15, 46, 5, [60, 120, 180, 240, 300, 0]);
-    let replaced = plan(0, 0, 5, [60, 120, 181, 240, 300, 0]);
-    let backward = plan(15, 14, 5, [60, 120, 180, 240, 300, 0]);
-    answer(b"maintain 15 years", s, &maintained[0..29]);
-    answer(b"maintain 16 years", s, &longer[0..29]);
-    answer(b"renovate 30 years", s, &renovated[0..29]);
-    answer(b"renovate 31 years", s, &renewed[0..29]);
-    answer(b"replace 61 years", s, &replaced[0..29]);
-    answer(b"i above j", s, &backward[0..29]);
+fn years(rt: &impl Print, s: &[u8]) -> io::Result<()> {
+    let before = Plan::of(0, 0, &[60, 120, 180, 240, 299]);
+    let past = Plan::of(0, 0, &[60, 120, 180, 241, 301]);
+    let equal = Plan::of(0, 0, &[60, 120, 120, 180, 240, 300]);
+    let falling = Plan::of(0, 0, &[60, 120, 119, 179, 240, 300]);
+    answer(rt, "ends before T", s, before.bytes())?;
+    answer(rt, "ends past T", s, past.bytes())?;
+    answer(rt, "equal ends", s, equal.bytes())?;
+    answer(rt, "ends that fall", s, falling.bytes())
+}
+
+fn lives(rt: &impl Print, s: &[u8]) -> io::Result<()> {
+    let maintained = Plan::of(15, 15, &[60, 120, 180, 240, 300]);
+    let longer = Plan::of(16, 16, &[60, 120, 180, 240, 300]);
+    let renovated = Plan::of(15, 45, &[60, 120, 180, 240, 300]);
+    let renewed = Plan::of(15, 46, &[60, 120, 180, 240, 300]);
+    let replaced = Plan::of(0, 0, &[60, 120, 181, 240, 300]);
+    let backward = Plan::of(15, 14, &[60, 120, 180, 240, 300]);
+    answer(rt, "maintain 15 years", s, maintained.bytes())?;
+    answer(rt, "maintain 16 years", s, longer.bytes())?;
+    answer(rt, "renovate 30 years", s, renovated.bytes())?;
+    answer(rt, "renovate 31 years", s, renewed.bytes())?;
+    answer(rt, "replace 61 years", s, replaced.bytes())?;
+    answer(rt, "i above j", s, backward.bytes())
 }
 
 // No replacement at all: renovating would have to end at T.
-fn none(s: &[u8]) {
-    let p = plan(15, 45, 0, [0, 0, 0, 0, 0, 0]);
-    answer(b"no replacement", s, &p[0..19]);
+fn none(rt: &impl Print, s: &[u8]) -> io::Result<()> {
+    let p = Plan::of(15, 45, &[]);
+    answer(rt, "no replacement", s, p.bytes())
 }
 
-fn first() {
-    let p = plan(0, 0, 5, [60, 120, 180, 240, 300, 0]);
-    let late = test_sheets::put16(sheet(), 5, 301);
-    let long = test_sheets::put16(sheet(), REPLACE_AT + 2, 121);
-    answer(b"no sheet", b"", &p[0..29]);
-    answer(b"T 301", &late, &p[0..29]);
-    answer(b"life 121 and no plan", &long, b"");
+fn first(rt: &impl Print) -> io::Result<()> {
+    let p = least();
+    let late = sheet().put16(5, 301);
+    let long = sheet().put16(REPLACE_AT + 2, 121);
+    answer(rt, "no sheet", &[], p.bytes())?;
+    answer(rt, "T 301", &late.0, p.bytes())?;
+    answer(rt, "life 121 and no plan", &long.0, &[])
 }
 
-pub fn all() {
+pub fn all(rt: &impl Print) -> io::Result<()> {
     let s = sheet();
-    lengths(&s);
-    fields(&s);
-    years(&s);
-    lives(&s);
-    none(&s);
-    first();
+    lengths(rt, &s.0)?;
+    fields(rt, &s.0)?;
+    years(rt, &s.0)?;
+    lives(rt, &s.0)?;
+    none(rt, &s.0)?;
+    first(rt)
 }

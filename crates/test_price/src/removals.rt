@@ -2,68 +2,53 @@
 // replacement is dearer than two without removal and cheaper with it; and chains of the paper's case study.
 
 use crate::show::answer;
-use test_sheets::plans::plan;
+use std::io;
+use test_sheets::plans::Plan;
 use test_sheets::removals;
 
 // Of the ends only the last, in year T, pays no removal.
-fn case_12() {
-    let s = removals::case_12();
-    let least = plan(0, 0, 2, [2, 4, 0, 0, 0, 0]);
-    let longer = plan(0, 0, 2, [3, 4, 0, 0, 0, 0]);
-    let yearly = plan(0, 0, 4, [1, 2, 3, 4, 0, 0]);
-    answer(b"case 12 removed, replace 2 4", &s, &least[0..23]);
-    answer(b"case 12 removed, replace 3 4", &s, &longer[0..23]);
-    answer(b"case 12 removed, replace 1 2 3 4", &s, &yearly[0..27]);
+fn case_12(rt: &impl Print) -> io::Result<()> {
+    let s = removals::case_12().0;
+    let least = Plan::of(0, 0, &[2, 4]);
+    let longer = Plan::of(0, 0, &[3, 4]);
+    let yearly = Plan::of(0, 0, &[1, 2, 3, 4]);
+    answer(rt, "case 12 removed, replace 2 4", &s, least.bytes())?;
+    answer(rt, "case 12 removed, replace 3 4", &s, longer.bytes())?;
+    answer(rt, "case 12 removed, replace 1 2 3 4", &s, yearly.bytes())
 }
 
-fn alone() {
-    let s = removals::alone();
-    let every = plan(1, 2, 2, [3, 4, 0, 0, 0, 0]);
-    let skipped = plan(1, 1, 3, [2, 3, 4, 0, 0, 0]);
-    let kept = plan(2, 4, 0, [0, 0, 0, 0, 0, 0]);
-    answer(
-        b"removals alone, maintain 1, renovate 2, replace 3 4",
-        &s,
-        &every[0..23],
-    );
-    answer(
-        b"removals alone, maintain 1, replace 2 3 4",
-        &s,
-        &skipped[0..25],
-    );
-    answer(b"removals alone, maintain 2, renovate 4", &s, &kept[0..19]);
+fn alone(rt: &impl Print) -> io::Result<()> {
+    let s = removals::alone().0;
+    let every = Plan::of(1, 2, &[3, 4]);
+    let skipped = Plan::of(1, 1, &[2, 3, 4]);
+    let kept = Plan::of(2, 4, &[]);
+    answer(rt, "removals alone, maintain 1, renovate 2, replace 3 4", &s, every.bytes())?;
+    answer(rt, "removals alone, maintain 1, replace 2 3 4", &s, skipped.bytes())?;
+    answer(rt, "removals alone, maintain 2, renovate 4", &s, kept.bytes())
 }
 
-fn overhauled() {
-    let without = removals::overhauled(0);
-    let with = removals::overhauled(6);
-    let twice = plan(0, 0, 2, [1, 2, 0, 0, 0, 0]);
-    let once = plan(0, 0, 1, [2, 0, 0, 0, 0, 0]);
-    answer(b"overhauled, replace 1 2", &without, &twice[0..23]);
-    answer(b"overhauled, replace 2", &without, &once[0..21]);
-    answer(b"overhauled, removal 6, replace 1 2", &with, &twice[0..23]);
-    answer(b"overhauled, removal 6, replace 2", &with, &once[0..21]);
+fn overhauled(rt: &impl Print) -> io::Result<()> {
+    let without = removals::overhauled(0).0;
+    let with = removals::overhauled(6).0;
+    let twice = Plan::of(0, 0, &[1, 2]);
+    let once = Plan::of(0, 0, &[2]);
+    answer(rt, "overhauled, replace 1 2", &without, twice.bytes())?;
+    answer(rt, "overhauled, replace 2", &without, once.bytes())?;
+    answer(rt, "overhauled, removal 6, replace 1 2", &with, twice.bytes())?;
+    answer(rt, "overhauled, removal 6, replace 2", &with, once.bytes())
 }
 
-fn case_study() {
-    let s = removals::case_study();
-    let least = plan(0, 0, 5, [60, 120, 180, 240, 300, 0]);
-    let classic = plan(5, 35, 5, [95, 155, 215, 275, 300, 0]);
-    answer(
-        b"paper removed, replace 60 120 180 240 300",
-        &s,
-        &least[0..29],
-    );
-    answer(
-        b"paper removed, maintain 5, renovate 35, replace 95 155 215 275 300",
-        &s,
-        &classic[0..29],
-    );
+fn case_study(rt: &impl Print) -> io::Result<()> {
+    let s = removals::case_study().0;
+    let least = Plan::of(0, 0, &[60, 120, 180, 240, 300]);
+    let classic = Plan::of(5, 35, &[95, 155, 215, 275, 300]);
+    answer(rt, "paper removed, replace 60 120 180 240 300", &s, least.bytes())?;
+    answer(rt, "paper removed, maintain 5, renovate 35, replace 95 155 215 275 300", &s, classic.bytes())
 }
 
-pub fn all() {
-    case_12();
-    alone();
-    overhauled();
-    case_study();
+pub fn all(rt: &impl Print) -> io::Result<()> {
+    case_12(rt)?;
+    alone(rt)?;
+    overhauled(rt)?;
+    case_study(rt)
 }

@@ -1,11 +1,9 @@
 // A case's line: its name, then what `price` answers.
 
-use test_sheets::show::answered;
+use std::io;
+use test_sheets::show::{Named, settled};
 
-const OUT: i32 = 1;
-
-pub fn answer(name: &[u8], sheet: &[u8], plan: &[u8]) {
-    let a = pricing::price(sheet, plan);
-    io::write_all(OUT, name);
-    answered(a);
+pub fn answer(rt: &impl Print, name: &str, sheet: &[u8], plan: &[u8]) -> io::Result<()> {
+    let units = Named("units", settled(pricing::price(sheet, plan)));
+    println!(rt; "{name}: {units}")
 }

@@ -1,8 +1,8 @@
-// For the test programs: sheets and plans made by setting fields, and the lines that are printed.
+// For the test programs: sheets and plans made by setting fields, and what is printed of an answer.
 
 #![tactic(auto)]
 
-ghost use Rattle.std.specs.Prelude.{◌+◌, ◌≤◌};
+ghost use Rattle.std.specs.Prelude.{◌+◌, ◌≤◌, length};
 
 pub mod document;
 pub mod longer;
@@ -18,52 +18,58 @@ pub const RENOVATE_AT: usize = 100;
 
 pub const REPLACE_AT: usize = 189;
 
-// The lowest byte of a value.
-pub fn low(value: u64) -> u8 {
-    (value % 256) as u8
-}
+// The bytes of a sheet or a plan, which are made by setting fields.
+#[derive(Clone, Copy)]
+pub struct Bytes<const N: usize>(pub [u8; N]);
 
-// A field set at a place: of one byte, of two or of four.
-pub fn put8(sheet: [u8; 278], at: usize, value: u64) -> [u8; 278]
-    requires { at + 1 ≤ 278 }
-{
-    let mut s = sheet;
-    s[at] = low(value);
-    s
-}
+pub type ShortSheet = Bytes<278>;
 
-pub fn put16(sheet: [u8; 278], at: usize, value: u64) -> [u8; 278]
-    requires { at + 2 ≤ 278 }
-{
-    let mut s = sheet;
-    s[at] = low(value);
-    s[at + 1] = low(value / 256);
-    s
-}
+impl<const N: usize> Bytes<N> {
+    // The bytes from a place on set.
+    pub fn put(self, at: usize, part: &[u8]) -> Self
+        requires { at + length part.now ≤ N }
+    {
+        let mut bytes = self.0;
+        let all = &mut bytes[..];
+        all[at..at + part.len()].copy_from_slice(part);
+        Bytes(bytes)
+    }
 
-pub fn put32(sheet: [u8; 278], at: usize, value: u64) -> [u8; 278]
-    requires { at + 4 ≤ 278 }
-{
-    let mut s = sheet;
-    s[at] = low(value);
-    s[at + 1] = low(value / 256);
-    s[at + 2] = low(value / 65_536);
-    s[at + 3] = low(value / 16_777_216);
-    s
-}
+    // A field of one byte, of two or of four.
+    pub fn put8(self, at: usize, value: u8) -> Self
+        requires { at + 1 ≤ N }
+    {
+        self.put(at, &[value])
+    }
 
-// The shortest and the longest life in the record at a place.
-pub fn lives(sheet: [u8; 278], at: usize, shortest: u64, longest: u64) -> [u8; 278]
-    requires { at ≤ 189 }
-{
-    put16(put16(sheet, at, shortest), at + 2, longest)
+    pub fn put16(self, at: usize, value: u16) -> Self
+        requires { at + 2 ≤ N }
+    {
+        self.put(at, &value.to_le_bytes())
+    }
+
+    pub fn put32(self, at: usize, value: u32) -> Self
+        requires { at + 4 ≤ N }
+    {
+        self.put(at, &value.to_le_bytes())
+    }
+
+    pub fn put_i32(self, at: usize, value: i32) -> Self
+        requires { at + 4 ≤ N }
+    {
+        self.put(at, &value.to_le_bytes())
+    }
+
+    // The shortest and the longest life in the record at a place.
+    pub fn lives(self, at: usize, shortest: u16, longest: u16) -> Self
+        requires { at + 4 ≤ N }
+    {
+        self.put16(at, shortest).put16(at + 2, longest)
+    }
 }
 
 // T 300, r 40,000, every record zero.
-pub fn plain() -> [u8; 278] {
-    let mut s = [0u8; 278];
-    s[0] = b'R';
-    s[1] = b'C';
-    s[2] = b'S';
-    put32(put16(put16(s, 3, 1), 5, 300), 7, 40_000)
+pub fn plain() -> ShortSheet {
+    let header = Bytes([0; 278]).put(0, b"RCS").put16(3, 1);
+    header.put16(5, 300).put32(7, 40_000)
 }

@@ -1,29 +1,56 @@
-// Plans made by setting fields: room for six ends, of which the first m are meant.
+// Plans made by setting fields.
 
-ghost use Rattle.std.specs.Prelude.{◌+◌, ◌≤◌};
+ghost use Rattle.std.specs.Prelude.{◌+◌, ◌≤◌, length};
 
-use crate::low;
+use crate::Bytes;
 
-pub fn put16(plan: [u8; 31], at: usize, value: u64) -> [u8; 31]
-    requires { at + 2 ≤ 31 }
-{
-    let mut p = plan;
-    p[at] = low(value);
-    p[at + 1] = low(value / 256);
-    p
+// Room for six ends. The bytes behind the plan's own are 0.
+#[derive(Clone, Copy)]
+pub struct Plan {
+    fields: Bytes<31>,
+    length: usize,
+    ghost within: { length ≤ 31 },
 }
 
-// Mark, version, a total field of eight bytes 255, then i, j and m.
-fn header(i: u64, j: u64, m: u64) -> [u8; 31] {
-    let mut p = [255u8; 31];
-    p[0] = b'R';
-    p[1] = b'C';
-    p[2] = b'P';
-    put16(put16(put16(put16(p, 3, 1), 13, i), 15, j), 17, m)
+// Mark, version, a total field of eight bytes 255, then i, j and m, and room for the ends.
+fn header(i: u16, j: u16, m: u16) -> Bytes<31> {
+    let mark = Bytes([0; 31]).put(0, b"RCP").put16(3, 1);
+    let total = mark.put(5, &[255; 8]);
+    total.put16(13, i).put16(15, j).put16(17, m)
 }
 
-pub fn plan(i: u64, j: u64, m: u64, ends: [u64; 6]) -> [u8; 31] {
-    let first = put16(put16(header(i, j, m), 19, ends[0]), 21, ends[1]);
-    let more = put16(put16(first, 23, ends[2]), 25, ends[3]);
-    put16(put16(more, 27, ends[4]), 29, ends[5])
+impl Plan {
+    pub fn of(i: u16, j: u16, ends: &[u16]) -> Plan
+        requires { length ends.now ≤ 6 }
+    {
+        let mut fields = header(i, j, ends.len() as u16);
+        for (k, &end) in ends.iter().enumerate() {
+            fields = fields.put16(19 + 2 * k, end);
+        }
+        Plan {
+            fields,
+            length: 19 + 2 * ends.len(),
+        }
+    }
+
+    // The plan with another field in place of one that it has.
+    pub fn put16(self, at: usize, value: u16) -> Plan
+        requires { at + 2 ≤ 31 }
+    {
+        Plan {
+            fields: self.fields.put16(at, value),
+            length: self.length,
+        }
+    }
+
+    pub fn bytes(&self) -> &[u8] {
+        &self.fields.0[..self.length]
+    }
+
+    // So many bytes, of the plan or behind it too.
+    pub fn first(&self, length: usize) -> &[u8]
+        requires { length ≤ 31 }
+    {
+        &self.fields.0[..length]
+    }
 }

@@ -1,33 +1,42 @@
-// What the programs print: a number; an answer, within a line or at its end.
+// What the programs print of an answer.
 
 use base::Answer;
+use std::fmt;
 
-const OUT: i32 = 1;
-
-pub fn number(n: u64) {
-    io::write_all(OUT, b" ");
-    io::print_decimal(OUT, n);
+// The number of a refusal, and the option at fault, or 3.
+#[derive(Clone, Copy, Debug)]
+pub struct Refused {
+    number: u8,
+    option: u8,
 }
 
-// The total, after what it is called, or `refused` with the number and the option.
-pub fn answer_as(called: &[u8], a: Answer) {
-    if a.number == 0 {
-        io::write_all(OUT, called);
-        number(a.total);
-    } else {
-        io::write_all(OUT, b": refused");
-        number(a.number as u64);
-        number(a.option as u64);
+impl fmt::Display for Refused {
+    fn fmt<W: fmt::Write>(&self, f: &mut fmt::Formatter<W>) -> fmt::Result {
+        write!(f, "refused {} {}", self.number, self.option)
     }
 }
 
-// The total is in units.
-pub fn answer(a: Answer) {
-    answer_as(b": units", a);
+// The total of an accepted call, or the refusal.
+pub fn settled(a: Answer) -> Result<u64, Refused> {
+    if a.number == 0 {
+        Ok(a.total)
+    } else {
+        Err(Refused {
+            number: a.number,
+            option: a.option,
+        })
+    }
 }
 
-// The same, and the line ends.
-pub fn answered(a: Answer) {
-    answer(a);
-    io::write_all(OUT, b"\n");
+// The total after what it is called, or the refusal.
+#[derive(Clone, Copy)]
+pub struct Named<'a>(pub &'a str, pub Result<u64, Refused>);
+
+impl fmt::Display for Named<'_> {
+    fn fmt<W: fmt::Write>(&self, f: &mut fmt::Formatter<W>) -> fmt::Result {
+        match self.1 {
+            Ok(total) => write!(f, "{} {total}", self.0),
+            Err(refused) => write!(f, "{refused}"),
+        }
+    }
 }

@@ -5,36 +5,26 @@
 
 ghost use Rattle.std.specs.Prelude.{◌≤◌};
 
-const OUT: i32 = 1;
+use std::io;
 
-// A line of the table.
-fn print_factor(rate: u64, year: u64)
+// The years 0 to 300 of a rate, a line each.
+fn print_rate(rt: &impl Print, rate: u64) -> io::Result<()>
     requires { rate ≤ 200_000 }
 {
-    io::write_all(OUT, b"    ");
-    io::print_decimal(OUT, factors::stepped(rate, year));
-    io::write_all(OUT, b",\n");
-}
-
-// The years 0 to 300 of a rate.
-fn print_rate(rate: u64)
-    requires { rate ≤ 200_000 }
-{
-    for year in 0..301 {
-        print_factor(rate, year);
+    for year in 0..=300 {
+        println!(rt; "    {},", factors::stepped(rate, year))?;
     }
+    Ok(())
 }
 
-fn main() {
-    io::write_all(
-        OUT,
-        b"// The present-worth factors of 2, 3, 4 and 5 per cent, one rate after the other, each from year 0 to year 300.\n",
-    );
-    io::write_all(OUT, b"// `yearbook_table` prints this file.\n\n");
-    io::write_all(OUT, b"pub const FACTORS: [u64; 1204] = [\n");
-    print_rate(20_000);
-    print_rate(30_000);
-    print_rate(40_000);
-    print_rate(50_000);
-    io::write_all(OUT, b"];\n");
+fn main(rt: HostRuntime) -> io::Result<()> {
+    println!(rt;
+        "// The present-worth factors of 2, 3, 4 and 5 per cent, one rate after the other, each from year 0 to year 300."
+    )?;
+    println!(rt; "// `yearbook_table` prints this file.\n")?;
+    println!(rt; "pub const FACTORS: [u64; 1204] = [")?;
+    for rate in [20_000, 30_000, 40_000, 50_000] {
+        print_rate(&rt, rate)?;
+    }
+    println!(rt; "];")
 }

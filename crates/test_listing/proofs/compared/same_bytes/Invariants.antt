@@ -1,9 +1,0 @@
--- Every byte that is read lies in the buffer. Assumes nothing.
-use Rattle.std.proofs.Common.{◌-◌, ◌≤◌}
-use Rattle.test_listing.proofs.compared.same_bytes.Given as goal
-
-abbrev pub invariant-loop-k : goal.invariant-loop-k
-invariant-loop-k l = l.k ≤ 302
-
-abbrev pub decreases-loop-k : goal.decreases-loop-k
-decreases-loop-k l = 302 - l.k
