@@ -7,8 +7,9 @@ ghost use Rattle.std.specs.Prelude.{◌≡◌};
 ghost use Rattle.base.specs.Answer.{accepted, refused};
 ghost use Rattle.base.specs.Outcome.{place, number_of, option_of, answer_of, check_answer, Names};
 
+use std::fmt;
+
 pub mod numbers;
-pub mod order;
 
 // What a chain is made of, in the order of a sheet's options.
 #[derive(Clone, Copy, Debug, PartialEq, Eq)]
@@ -111,6 +112,13 @@ impl Refusal {
             | Refusal::Overhauls(activity) => activity as u8,
             _ => 3,
         }
+    }
+}
+
+// As it is printed: its number and its option.
+impl fmt::Display for Refusal {
+    fn fmt<W: fmt::Write>(&self, f: &mut fmt::Formatter<W>) -> fmt::Result {
+        write!(f, "refused {} {}", self.number(), self.option())
     }
 }
 

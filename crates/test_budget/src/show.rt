@@ -1,7 +1,7 @@
 // What is printed: a call and what it answers, the words of a year, a sum, and whether words hold what they held.
 
 use std::io;
-use test_sheets::show::{Named, settled};
+use test_sheets::show::Named;
 
 // What every word of a list holds before a call.
 pub const HELD: u64 = 7;
@@ -28,7 +28,7 @@ impl Call<'_> {
     // The call's line: its name, general inflation and the lengths of both lists, then what `budget` answers, and whether it left the lists.
     pub fn answer(self, rt: &impl Print, units: &mut [u64], cents: &mut [u64]) -> io::Result<()> {
         let answer = budget::budget(self.sheet, self.plan, self.general, units, cents);
-        let total = Named("units", settled(answer));
+        let total = Named("units", answer);
         print!(rt; "{}, general {}", self.name, self.general)?;
         print!(rt; ", words {} {}: {total}", units.len(), cents.len())?;
         println!(rt; ", units {}, cents {}", state(units), state(cents))
@@ -37,7 +37,7 @@ impl Call<'_> {
     // The sum of the words of all years, and what `price` answers.
     pub fn totals(self, rt: &impl Print, units: &[u64]) -> io::Result<()> {
         let sum = units.iter().fold(0u64, |sum, &word| sum.wrapping_add(word));
-        let price = Named("units", settled(pricing::price(self.sheet, self.plan)));
+        let price = Named("units", pricing::price(self.sheet, self.plan));
         println!(rt; "sum: units {sum}\nprice: {price}")
     }
 }

@@ -1,22 +1,22 @@
 // A case's line: its name, then `accepted` or the refusal.
 
+use base::Refusal;
 use std::{fmt, io};
-use test_sheets::show::{Refused, settled};
 
 #[derive(Clone, Copy)]
-pub struct Checked(Result<u64, Refused>);
+pub struct Checked(Result<(), Refusal>);
 
 impl fmt::Display for Checked {
     fn fmt<W: fmt::Write>(&self, f: &mut fmt::Formatter<W>) -> fmt::Result {
         match self.0 {
-            Ok(_) => f.write_str("accepted"),
-            Err(refused) => write!(f, "{refused}"),
+            Ok(()) => f.write_str("accepted"),
+            Err(refusal) => write!(f, "{refusal}"),
         }
     }
 }
 
 pub fn check(sheet: &[u8]) -> Checked {
-    Checked(settled(checking::check(sheet)))
+    Checked(checking::check(sheet))
 }
 
 pub fn answer(rt: &impl Print, name: &str, sheet: &[u8]) -> io::Result<()> {

@@ -3,7 +3,6 @@
 use crate::show::answer;
 use std::io;
 use test_sheets::paper::sheet;
-use test_sheets::show::settled;
 
 // The start and the end of each replacement, and what Table 5 has for it, in units: ten thousandths of a euro.
 const TABLE: [(u64, u64, u64); 5] = [
@@ -17,7 +16,7 @@ const TABLE: [(u64, u64, u64); 5] = [
 // A replacement, and whether it costs what the table has, give or take less than a euro.
 fn replacement(rt: &impl Print, s: &[u8], start: u64, end: u64, table: u64) -> io::Result<()> {
     answer(rt, s, ("paper", 2, start, end))?;
-    let near = match settled(costing::cost(s, 2, start, end)) {
+    let near = match costing::cost(s, 2, start, end) {
         Ok(units) => units.abs_diff(table) < 10_000,
         Err(_) => false,
     };

@@ -4,7 +4,7 @@
 #![tactic(auto)]
 
 use std::io;
-use test_sheets::show::{Named, settled};
+use test_sheets::show::Named;
 
 const USUAL: [u64; 9] = [
     19_999, 20_000, 20_001, 30_000, 39_999, 40_000, 40_001, 50_000, 50_001,
@@ -17,7 +17,7 @@ const REFUSED: [u64; 3] = [200_001, 4_294_967_296 + 40_000, u64::MAX];
 const YEARS: [u64; 9] = [0, 1, 2, 3, 150, 299, 300, 301, u64::MAX];
 
 fn answer(rt: &impl Print, rate: u64, year: u64) -> io::Result<()> {
-    let factor = Named("factor", settled(yearbook::factor(rate, year)));
+    let factor = Named("factor", yearbook::factor(rate, year));
     println!(rt; "rate {rate} year {year}: {factor}")
 }
 

@@ -61,7 +61,7 @@ struct Outcome {
 fn planned(sheet: &[u8]) -> Outcome {
     let mut plan = [expected::LEFT; 302];
     let mut words = [expected::LEFT as u64; 302];
-    let answer = planner::plan(sheet, &mut plan, &mut words);
+    let answer = Answer::from(planner::plan(sheet, &mut plan, &mut words));
     Outcome {
         answer,
         plan,

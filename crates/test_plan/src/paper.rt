@@ -5,14 +5,14 @@ use crate::planned::{amply, in_buffers};
 use std::io;
 use test_sheets::REPLACE_AT;
 use test_sheets::paper::sheet;
-use test_sheets::show::{Named, settled};
+use test_sheets::show::Named;
 
 // Its five replacements fill 29 bytes, so the whole buffer is the plan that is priced.
 pub fn five_replacements(rt: &impl Print, name: &str, sheet: &[u8]) -> io::Result<()> {
     let mut plan = [0; 29];
     let mut words = [0; 301];
     in_buffers(rt, name, sheet, &mut plan, &mut words)?;
-    let priced = Named("priced", settled(pricing::price(sheet, &plan)));
+    let priced = Named("priced", pricing::price(sheet, &plan));
     println!(rt; "{priced}")
 }
 

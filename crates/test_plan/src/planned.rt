@@ -2,7 +2,6 @@
 
 use crate::show::plan_lines;
 use std::io;
-use test_sheets::show::settled;
 
 // In the buffers that are lent.
 pub fn in_buffers(
@@ -13,9 +12,9 @@ pub fn in_buffers(
     words: &mut [u64],
 ) -> io::Result<()> {
     println!(rt; "{name}")?;
-    match settled(planner::plan(sheet, plan, words)) {
+    match planner::plan(sheet, plan, words) {
         Ok(_) => plan_lines(rt, plan),
-        Err(refused) => println!(rt; "{refused}"),
+        Err(refusal) => println!(rt; "{refusal}"),
     }
 }
 
