@@ -14,7 +14,12 @@ use sheet::Sheet;
 use weighing;
 
 // Finds the chosen chain by the words and the first ends, and writes its plan where there is one and the buffer is long enough for it.
-pub fn write_chosen(sheet: Sheet, plan: &mut [u8], words: &[u64], firsts: &[u64]) -> Result<u64, Refusal>
+pub fn write_chosen(
+    sheet: Sheet,
+    plan: &mut [u8],
+    words: &[u64],
+    firsts: &[u64],
+) -> Result<u64, Refusal>
     requires { SheetFits sheet × TailsLent sheet words.now × FirstsHeld sheet firsts.now }
     ensures answer { (p : PlanningSheet) → sheet ≡ parsed p → answer_of result ≡ planning p (length plan.old) }
     ensures plan { (p : PlanningSheet) → sheet ≡ parsed p → plan.new ≡ plan_written p plan.old }

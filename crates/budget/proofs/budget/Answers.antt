@@ -30,17 +30,17 @@ returns-in_err-total c =
     let p = err_from_is_err_and r c.from_residual.ensures.1 in
     let q = passed_on (λ (t : ℕ). t) (λ (t : ℕ). t) r c.price.result c.in_err-total.field-0.0 p.0 c.in_err-total.was p.1 p.2 in
     let held =
-      refused_ended a.sheet.now a.plan.now a.general a.units.now a.cents.now (answer_of r) (q ∙ c.price.ensures.answer)
-      (λ t. rw q (Iff.trans (ok_total c.price.result t) (c.price.ensures.accepted t))) (refused_number (λ (t : ℕ). t) r p.0 p.1) in
+    refused_ended a.sheet.now a.plan.now a.general a.units.now a.cents.now (answer_of r) (q ∙ c.price.ensures.answer)
+    (λ t. rw q (Iff.trans (ok_total c.price.result t) (c.price.ensures.accepted t))) (refused_number (λ (t : ℕ). t) r p.0 p.1) in
     record { answer = held.0; units = held.1.0; cents = held.1.1.0; promised = held.1.1.1 }
 
 pub returns-then-general-gt-LARGEST_INFLATION : goal.returns-then-general-gt-LARGEST_INFLATION
 returns-then-general-gt-LARGEST_INFLATION c =
     let a = c.args in
     let held =
-      high_ended a.sheet.now a.plan.now a.general a.units.now a.cents.now (answer_of c.price.result) c.price.ensures.answer
-      (λ t. Iff.trans (ok_total c.price.result t) (c.price.ensures.accepted t)) (passed_number (λ (t : ℕ). t) c.price.result _ c.in_ok-total.was)
-      (refused 15 3) refl (omega arith) in
+    high_ended a.sheet.now a.plan.now a.general a.units.now a.cents.now (answer_of c.price.result) c.price.ensures.answer
+    (λ t. Iff.trans (ok_total c.price.result t) (c.price.ensures.accepted t)) (passed_number (λ (t : ℕ). t) c.price.result _ c.in_ok-total.was)
+    (refused 15 3) refl (omega arith) in
     record { answer = held.0; units = held.1.0; cents = held.1.1.0; promised = held.1.1.1 }
 
 pub parse-parsed-requires : goal.parse-parsed-requires
@@ -54,9 +54,9 @@ returns-then-not-roomy c =
     let horizon = horizon_read _ _ c.parse-parsed.ensures in
     let short = ap (λ (T : ℕ). roomy T (length a.units.now) (length a.cents.now)) (sym horizon) ∙ sym c.roomy.ensures ∙ c.if-not-roomy.true in
     let held =
-      short_ended a.sheet.now a.plan.now a.general a.units.now a.cents.now (answer_of c.price.result) c.price.ensures.answer
-      (λ t. Iff.trans (ok_total c.price.result t) (c.price.ensures.accepted t)) (passed_number (λ (t : ℕ). t) c.price.result _ c.in_ok-total.was)
-      (omega arith) (refused 16 3) refl short in
+    short_ended a.sheet.now a.plan.now a.general a.units.now a.cents.now (answer_of c.price.result) c.price.ensures.answer
+    (λ t. Iff.trans (ok_total c.price.result t) (c.price.ensures.accepted t)) (passed_number (λ (t : ℕ). t) c.price.result _ c.in_ok-total.was)
+    (omega arith) (refused 16 3) refl short in
     record { answer = held.0; units = held.1.0; cents = held.1.1.0; promised = held.1.1.1 }
 
 pub fill-requires : goal.fill-requires
@@ -87,8 +87,8 @@ returns c =
     let horizon = horizon_read _ _ c.parse-parsed.ensures in
     let room = ap (λ (T : ℕ). roomy T (length a.units.now) (length a.cents.now)) (sym horizon) ∙ sym c.roomy.ensures ∙ c.if-not-roomy.false in
     let held =
-      written_ended a.sheet.now a.plan.now a.general a.units.now a.cents.now (answer_of c.price.result) c.price.ensures.answer
-      (λ t. Iff.trans (ok_total c.price.result t) (c.price.ensures.accepted t)) zero (omega arith) c.fill.new.units c.fill.new.cents room
-      (c.fill.ensures.units _ c.parse-parsed.ensures h.1.1) (c.fill.ensures.cents _ c.parse-parsed.ensures) in
+    written_ended a.sheet.now a.plan.now a.general a.units.now a.cents.now (answer_of c.price.result) c.price.ensures.answer
+    (λ t. Iff.trans (ok_total c.price.result t) (c.price.ensures.accepted t)) zero (omega arith) c.fill.new.units c.fill.new.cents room
+    (c.fill.ensures.units _ c.parse-parsed.ensures h.1.1) (c.fill.ensures.cents _ c.parse-parsed.ensures) in
     let ended = rw c.in_ok-total.was at held in
     record { answer = ended.0; units = ended.1.0; cents = ended.1.1.0; promised = ended.1.1.1 }

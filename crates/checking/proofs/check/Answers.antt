@@ -48,8 +48,8 @@ returns-in_err-fields c =
     let k = c.loop-activity.activity-index in
     let e : place (at k) ≡ k = place_at k (omega arith) in
     let t : check_answer c.from_residual-in_err-fields.result ≡ checked c.args.sheet.now =
-      fields_stop _ (header_passes _ _ _ c.in_ok-header.was c.header.ensures) (place (at k)) (omega arith) (rw e c.loop-activity.invariant)
-      _ c.fields.result c.in_err-fields.field-0.0 p.0 c.in_err-fields.was p.1 p.2 (c.fields.ensures _ _ c.discount_of-discount.ensures c.terms_of-terms.ensures) in
+    fields_stop _ (header_passes _ _ _ c.in_ok-header.was c.header.ensures) (place (at k)) (omega arith) (rw e c.loop-activity.invariant)
+    _ c.fields.result c.in_err-fields.field-0.0 p.0 c.in_err-fields.was p.1 p.2 (c.fields.ensures _ _ c.discount_of-discount.ensures c.terms_of-terms.ensures) in
     record { answer = t; accepted = check_accepts _ _ t }
 
 pub loop-j-init : goal.loop-j-init
@@ -87,8 +87,8 @@ returns-then-not-entry_ok c =
     let count = ap (λ (t : Terms). t.overhauls.count) c.terms_of-terms.ensures in
     let found = entry_tested _ _ c.entry_ok.ensures count c.loop-j.invariant.last c.age_of-age.ensures c.amount_of-amount.ensures in
     let t = overhaul-refused _ (header_passes _ _ _ c.in_ok-header.was c.header.ensures) (place (at k)) (omega arith) (rw e c.loop-activity.invariant) c.loop-j.j
-      (fields_pass _ _ _ c.fields.result _ c.in_ok-fields.was (c.fields.ensures _ _ c.discount_of-discount.ensures c.terms_of-terms.ensures))
-      (omega arith) c.loop-j.invariant.before (sym found ∙ c.if-not-entry_ok.true) in
+    (fields_pass _ _ _ c.fields.result _ c.in_ok-fields.was (c.fields.ensures _ _ c.discount_of-discount.ensures c.terms_of-terms.ensures))
+    (omega arith) c.loop-j.invariant.before (sym found ∙ c.if-not-entry_ok.true) in
     record { answer = t; accepted = check_accepts _ (Err (Overhauls (at k))) t }
 
 pub returns-after-loop-activity : goal.returns-after-loop-activity

@@ -30,7 +30,7 @@ returns-in_err-check c =
     let r = c.from_residual.result in
     let p = err_from_is_err_and r c.from_residual.ensures.1 in
     let q : answer_of r ≡ check_answer c.check.result =
-      passed_on (λ (t : ℕ). t) (λ d. 0) r c.check.result c.in_err-check.field-0.0 p.0 c.in_err-check.was p.1 p.2 in
+    passed_on (λ (t : ℕ). t) (λ d. 0) r c.check.result c.in_err-check.field-0.0 p.0 c.in_err-check.was p.1 p.2 in
     let t = cost-refused a.sheet.now a.option a.start a.end (answer_of r) (q ∙ c.check.ensures.answer) (refused_number (λ (t : ℕ). t) r p.0 p.1) in
     let held = cost_answers a.sheet.now a.option a.start a.end r t in
     record { answer = held.0; accepted = held.1.0; near = held.1.1 }

@@ -33,8 +33,8 @@ returns-in_err-check c =
     let p = err_from_is_err_and r c.from_residual.ensures.1 in
     let q = passed_on (λ (t : ℕ). t) (λ d. 0) r c.check.result c.in_err-check.field-0.0 p.0 c.in_err-check.was p.1 p.2 in
     let held =
-      plan_answers _ _ _
-      (plan_refused a.sheet.now a.plan.now a.words.now (answer_of r) (q ∙ c.check.ensures.answer) (refused_number (λ (t : ℕ). t) r p.0 p.1)) in
+    plan_answers _ _ _
+    (plan_refused a.sheet.now a.plan.now a.words.now (answer_of r) (q ∙ c.check.ensures.answer) (refused_number (λ (t : ℕ). t) r p.0 p.1)) in
     record { answer = held.0; plan = held.1.0; words = held.1.1.0; promised = held.1.1.1 }
 
 pub returns-then-words-lt-WORDS : goal.returns-then-words-lt-WORDS
@@ -69,6 +69,6 @@ returns c =
     let read = c.parse-parsed.ensures in
     let w = c.write_chosen.ensures in
     let held =
-      plan_answers _ _ _
-      (plan_on a.sheet.now a.plan.now a.words.now ((checked-iff _).1 passes) (omega arith) _ _ _ (w.answer _ read) (w.plan _ read) (c.tail_words.ensures.words _ read)) in
+    plan_answers _ _ _
+    (plan_on a.sheet.now a.plan.now a.words.now ((checked-iff _).1 passes) (omega arith) _ _ _ (w.answer _ read) (w.plan _ read) (c.tail_words.ensures.words _ read)) in
     record { answer = held.0; plan = held.1.0; words = held.1.1.0; promised = held.1.1.1 }

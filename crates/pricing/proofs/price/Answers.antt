@@ -30,7 +30,7 @@ returns-in_err-check c =
     let r = c.from_residual.result in
     let p = err_from_is_err_and r c.from_residual.ensures.1 in
     let q : answer_of r ≡ check_answer c.check.result =
-      passed_on (λ (t : ℕ). t) (λ d. 0) r c.check.result c.in_err-check.field-0.0 p.0 c.in_err-check.was p.1 p.2 in
+    passed_on (λ (t : ℕ). t) (λ d. 0) r c.check.result c.in_err-check.field-0.0 p.0 c.in_err-check.was p.1 p.2 in
     let t = price_refused a.sheet.now a.plan.now (answer_of r) (q ∙ c.check.ensures.answer) (refused_number (λ (t : ℕ). t) r p.0 p.1) in
     let held = price_answers a.sheet.now a.plan.now (λ k l. omega (arith, c.type_inv.plan k)) r t in
     record { answer = held.0; accepted = held.1.0; near = held.1.1 }
@@ -52,7 +52,7 @@ plan_total-units-requires c =
     let a = c.args in
     let passes : Passes a.sheet.now = c.check.ensures.accepted.0 (rw c.in_ok-check.was refl) in
     let found : fitting (sheet_of a.sheet.now) a.plan.now ≡ true =
-      sym (c.plan_fits.ensures _ c.parse-parsed.ensures) ∙ c.if-not-plan_fits.false in
+    sym (c.plan_fits.ensures _ c.parse-parsed.ensures) ∙ c.if-not-plan_fits.false in
     let h = (fitting-iff _ _).0 found in
     let long = h.0.long in
     let horizon = horizon_read _ _ c.parse-parsed.ensures in
@@ -66,7 +66,7 @@ returns c =
     let a = c.args in
     let passes : Passes a.sheet.now = c.check.ensures.accepted.0 (rw c.in_ok-check.was refl) in
     let found : fitting (sheet_of a.sheet.now) a.plan.now ≡ true =
-      sym (c.plan_fits.ensures _ c.parse-parsed.ensures) ∙ c.if-not-plan_fits.false in
+    sym (c.plan_fits.ensures _ c.parse-parsed.ensures) ∙ c.if-not-plan_fits.false in
     let units = c.plan_total-units.ensures _ c.parse-parsed.ensures in
     let t = ap accepted units ∙ price_fit a.sheet.now a.plan.now ((checked-iff _).1 passes) found in
     let held = price_answers a.sheet.now a.plan.now (λ k l. omega (arith, c.type_inv.plan k)) (Ok c.plan_total-units.result.0) t in
