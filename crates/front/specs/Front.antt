@@ -6,10 +6,6 @@ use Rattle.sheet.specs.Layout.{year_places}
 use Rattle.sheet.specs.Sheet.{PlanningSheet, maintain, renovate}
 use Rattle.sheet.specs.Parsed.{parsed}
 use Rattle.sheet.specs.declared.Sheet.{Sheet}
-use Rattle.checking.specs.Fit.{SheetFits}
-use Rattle.division.specs.declared.Divisor.{Divisor}
-use Rattle.steps.specs.Fit.{Divides}
-use Rattle.streams.specs.Streams.{Lent}
 use Rattle.costing.specs.Offered.{offered}
 use Rattle.costing.specs.declared.Kept.{Kept}
 use Rattle.choice.specs.Running.{Entry, no_total, no_entry, weigh}
@@ -38,12 +34,6 @@ TailsLent = Held (λ p y. (tail_from p y).total) (λ p y. y ≤ p.horizon)
 -- the totals behind the ends of renovating: each of those totals, with what ending a renovation in its year adds
 abbrev pub AheadLent : Sheet → (ahead : List ℕ) → Type 0
 AheadLent = Held (λ p e. ahead_of (tail_from p e).total (adds_at p renovate e)) (λ p e. e ≤ p.horizon)
-
--- what the choices of renovating go by: a sheet that fits, its divisor, and what is lent for its option renovate
-pub record RenovateLent (s : Sheet) (discount : Divisor) (streams ages : List ℕ) : Type 0 where
-  pub sheet : SheetFits s
-  pub divides : Divides discount s.discount
-  pub lent : Lent s renovate streams ages
 
 -- beside the words, the ends of the first of the replacements from each year
 abbrev pub FirstsHeld : Sheet → (firsts : List ℕ) → Type 0

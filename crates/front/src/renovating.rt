@@ -7,7 +7,8 @@ ghost use Rattle.checking.specs.Fit.{SheetFits};
 ghost use Rattle.steps.specs.Fit.{Divides};
 ghost use Rattle.streams.specs.Streams.{StreamsOf};
 ghost use Rattle.weighing.specs.Ends.{WordsFit};
-ghost use Rattle.front.specs.Front.{TailsLent, RenovateLent, AheadLent, NoTotals, TotalsHeld, EndsHeld};
+ghost use Rattle.tails.specs.Writing.{OptionLent};
+ghost use Rattle.front.specs.Front.{TailsLent, AheadLent, NoTotals, TotalsHeld, EndsHeld};
 
 use crate::keeping;
 use division::Divisor;
@@ -31,7 +32,7 @@ fn look_ahead(ahead: &mut [u64], words: &[u64], lent: &Lent)
 
 // Writes, for year 0 and each later year in which maintaining may end, the least total from there and the end of renovating.
 fn fill(totals: &mut [u64], ends: &mut [u64], words: &[u64], ahead: &[u64], lent: &Lent)
-    requires renovate_lent { RenovateLent lent.now.sheet lent.now.discount lent.now.streams.now lent.now.ages.now }
+    requires renovate_lent { OptionLent renovate lent.now }
     requires behind { TailsLent lent.now.sheet words.now × AheadLent lent.now.sheet ahead.now }
     requires no_totals { NoTotals totals.old × (year_places ≤ length totals.old) × (year_places ≤ length ends.old) }
     ensures { TotalsHeld lent.now.sheet totals.new × WordsFit lent.now.sheet.horizon 0 totals.new × EndsHeld lent.now.sheet ends.new }

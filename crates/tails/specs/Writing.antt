@@ -20,6 +20,7 @@ use Rattle.weighing.specs.Best.{in_short}
 use Rattle.weighing.specs.Ends.{best_to, word_of}
 use Rattle.weighing.specs.Ahead.{ahead_of, adds_at}
 use Rattle.weighing.specs.declared.Best.{Best}
+use Rattle.tails.specs.declared.Lent.{Lent as LentTogether}
 use Rattle.tails.specs.Tail.{best_end, tail_from}
 use Rattle.tails.specs.Words.{words_needed, total_of, of_years}
 
@@ -87,8 +88,12 @@ pub record Fillable (s : Sheet) (discount : Divisor) (streams ages words firsts 
   pub places : year_places ≤ length firsts
   pub behind : year_places ≤ length ahead
 
--- of that, what the choices go by: the sheet, its divisor and what is lent
-pub record ReplaceLent (s : Sheet) (discount : Divisor) (streams ages : List ℕ) : Type 0 where
-  pub sheet : SheetFits s
-  pub divides : Divides discount s.discount
-  pub lent : Lent s replace streams ages
+-- the same, with a sheet, its divisor and what is lent held together
+abbrev pub FillableBy : LentTogether → (words firsts ahead : List ℕ) → Type 0
+FillableBy l words firsts ahead = Fillable l.sheet l.discount l.streams.now l.ages.now words firsts ahead
+
+-- what the choices of an option go by: a sheet that fits, its divisor, and what is lent for the option
+pub record OptionLent (option : ℕ) (l : LentTogether) : Type 0 where
+  pub sheet : SheetFits l.sheet
+  pub divides : Divides l.discount l.sheet.discount
+  pub lent : Lent l.sheet option l.streams.now l.ages.now

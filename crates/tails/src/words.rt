@@ -4,7 +4,7 @@ ghost use Rattle.std.specs.Prelude.{◌≡◌, ◌+◌, ◌-◌, ◌%◌, ◌<�
 ghost use Rattle.sheet.specs.Layout.{year_places};
 ghost use Rattle.sheet.specs.Sheet.{replace};
 ghost use Rattle.tails.specs.Words.{words_needed, total_of, first_end};
-ghost use Rattle.tails.specs.Writing.{AheadHeld, ChosenBehind, Settles, YearWritten, TwoWritten, LastWritten, AllWritten, Fillable, ReplaceLent};
+ghost use Rattle.tails.specs.Writing.{AheadHeld, ChosenBehind, Settles, YearWritten, TwoWritten, LastWritten, AllWritten, FillableBy, OptionLent};
 
 use crate::Lent;
 use sheet::{REPLACE, YEARS};
@@ -43,7 +43,7 @@ impl Lent<'_> {
 
     // Writes those of one year, by the totals behind the later years.
     fn one_year(&self, words: &mut [u64], firsts: &mut [u64], ahead: &mut [u64], year: u64)
-        requires fillable { Fillable self.now.sheet self.now.discount self.now.streams.now self.now.ages.now words.old firsts.old ahead.old }
+        requires fillable { FillableBy self.now words.old firsts.old ahead.old }
         requires year_lt_horizon { (year < self.now.sheet.horizon) × AheadHeld replace self.now.sheet (year + 1) ahead.old }
         ensures words { YearWritten total_of self.now.sheet year words.old words.new }
         ensures firsts { YearWritten first_end self.now.sheet year firsts.old firsts.new }
@@ -64,7 +64,7 @@ impl Lent<'_> {
 
     // Writes those of the horizon, and if it is odd those of the year before too. Answers the year that is reached, which is even.
     fn last_years(&self, words: &mut [u64], firsts: &mut [u64], ahead: &mut [u64]) -> u64
-        requires { Fillable self.now.sheet self.now.discount self.now.streams.now self.now.ages.now words.old firsts.old ahead.old }
+        requires { FillableBy self.now words.old firsts.old ahead.old }
         ensures reached { (result % 2 ≡ 0) × (result ≤ self.now.sheet.horizon) }
         ensures words { LastWritten total_of self.now.sheet result words.old words.new }
         ensures firsts { LastWritten first_end self.now.sheet result firsts.old firsts.new }
@@ -84,7 +84,7 @@ impl Lent<'_> {
 
     // Writes those of the two years before a year that is reached.
     fn two_years(&self, words: &mut [u64], firsts: &mut [u64], ahead: &mut [u64], reached: u64)
-        requires fillable { Fillable self.now.sheet self.now.discount self.now.streams.now self.now.ages.now words.old firsts.old ahead.old }
+        requires fillable { FillableBy self.now words.old firsts.old ahead.old }
         requires le_reached { (2 ≤ reached) × (reached ≤ self.now.sheet.horizon) × AheadHeld replace self.now.sheet reached ahead.old }
         ensures words { TwoWritten total_of self.now.sheet reached words.old words.new }
         ensures firsts { TwoWritten first_end self.now.sheet reached firsts.old firsts.new }
@@ -117,7 +117,7 @@ impl Lent<'_> {
 
     // Writes those of every year, from T down to 0, each once.
     pub(crate) fn fill(&self, words: &mut [u64], firsts: &mut [u64])
-        requires lent { ReplaceLent self.now.sheet self.now.discount self.now.streams.now self.now.ages.now }
+        requires lent { OptionLent replace self.now }
         requires places { (words_needed ≤ length words.old) × (year_places ≤ length firsts.old) }
         ensures words { AllWritten total_of self.now.sheet words.old words.new }
         ensures firsts { AllWritten first_end self.now.sheet firsts.old firsts.new }
