@@ -21,6 +21,7 @@ fn total_of(plan: &[u8]) -> u64
 }
 
 // The lines of replacements from a year on: that many, whose ends stand from byte 19 on.
+#[tactic(auto, using(crate::proofs::LineLaws::replacing))]
 fn put_replacements(text: &mut [u8], start: usize, plan: &[u8], first: u64, count: usize) -> usize
     requires { (plan_size count ≤ length plan.now) × (first ≤ 65_535) × (start + 20 * count ≤ length text.old) }
     ensures { Puts text.old start (activity_lines (replacements first (ends_at plan.now 19 count))) text.new result }

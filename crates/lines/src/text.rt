@@ -14,7 +14,7 @@ fn put_word(text: &mut [u8], at: usize, word: &[u8]) -> usize
     end
 }
 
-// How many digits a number has.
+// How many digits a number has. The loop is over the number itself and counts no index; std has no `ilog10`.
 fn places(number: u64) -> usize
     ensures { result ≡ places 19 number }
 {
@@ -52,6 +52,7 @@ fn put_number(text: &mut [u8], at: usize, number: u64) -> usize
 }
 
 // A line of a word and a number, which has at most 20 digits.
+#[tactic(auto, using(crate::proofs::LineLaws::lining))]
 pub fn put_line(text: &mut [u8], at: usize, word: &[u8], number: u64) -> usize
     requires { at + length word.now + 22 ≤ length text.old }
     ensures puts { Puts text.old at (line word.now number) text.new result }
@@ -63,6 +64,7 @@ pub fn put_line(text: &mut [u8], at: usize, word: &[u8], number: u64) -> usize
 }
 
 // A line of a word and two numbers of at most 5 digits.
+#[tactic(auto, using(crate::proofs::LineLaws::lining))]
 pub fn put_pair(text: &mut [u8], at: usize, word: &[u8], first: u64, second: u64) -> usize
     requires { (first ≤ 65_535) × (second ≤ 65_535) × (at + length word.now + 13 ≤ length text.old) }
     ensures puts { Puts text.old at (pair_line word.now first second) text.new result }

@@ -32,6 +32,7 @@ fn replaced(sheet: Sheet, start: u64, plan: &[u8], count: usize) -> Units
 }
 
 // The rounded total of the chain.
+#[tactic(auto, using(crate::proofs::EndsLaws::total_read))]
 pub fn plan_total(sheet: Sheet, plan: &[u8]) -> Units
     requires fit { Fit sheet × (plan_size (count_field plan.now) ≤ length plan.now) }
     requires ordered { Ordered sheet.horizon (decode plan.now) }

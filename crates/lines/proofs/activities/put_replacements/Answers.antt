@@ -1,4 +1,4 @@
--- The answers that no tactic finds.
+-- The answer that no tactic finds.
 use Prim.Native.Nat.{ℕ, ◌+◌}
 use mathlib.Core.Path.{sym, ap, ◌∙◌}
 use mathlib.Core.List.{List}
@@ -6,10 +6,10 @@ use native.Mathlib.Omega.{arith}
 use lib.ListN.{length}
 use lib.Seq.{sets}
 use Rattle.chain.specs.Chain.{replacements}
-use Rattle.chain.proofs.PlanBytesLaws.{ends_left, ends_more, ends_done}
+use Rattle.chain.proofs.PlanBytesLaws.{ends_left, ends_more}
 use Rattle.lines.specs.Lines.{activity_lines}
 use Rattle.lines.proofs.PutLaws.{puts_length, puts_left}
-use Rattle.lines.proofs.LineLaws.{replaced_next, replaced_none}
+use Rattle.lines.proofs.LineLaws.{replaced_next}
 use Rattle.lines.proofs.activities.put_replacements.Goals as goal
 
 pub loop-k-preserved : goal.loop-k-preserved
@@ -24,13 +24,4 @@ loop-k-preserved c =
       room = omega (arith, loop.invariant.room, put.short, puts_length put.puts);
       stored = left.0 ∙ ap (sets loop.text loop.at) (sym next) ∙ loop.invariant.stored;
       long = left.1 ∙ ap (λ (l : List ℕ). loop.at + length l) (sym next) ∙ loop.invariant.long;
-    }
-
-pub returns : goal.returns
-returns c =
-    let loop = c.loop-k in
-    let none = replaced_none loop.year (ends_done c.args.plan.now c.args.count loop.k (omega arith)) in record {
-      stored = sym (ap (sets loop.text loop.at) none) ∙ loop.invariant.stored;
-      behind = omega (arith, ap length none, loop.invariant.long);
-      inside = omega (arith, loop.invariant.room);
     }

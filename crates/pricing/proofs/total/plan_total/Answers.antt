@@ -1,6 +1,6 @@
--- The rounded total: maintaining, renovating and the replacements, whose years are in order. Assumes nothing.
+-- The years of maintaining, renovating and the replacements are in order. Assumes nothing.
 use native.Mathlib.Omega.{arith}
-use Rattle.pricing.proofs.EndsLaws.{ordered_read, total_read}
+use Rattle.pricing.proofs.EndsLaws.{ordered_read}
 use Rattle.pricing.proofs.total.plan_total.Goals as goal
 
 pub arc_cost-maintained-requires : goal.arc_cost-maintained-requires
@@ -17,12 +17,3 @@ arc_cost-renovated-requires c =
 pub replaced-replacements-requires-clause-climbs : goal.replaced-replacements-requires-clause-climbs
 replaced-replacements-requires-clause-climbs c =
     (ordered_read _ c.i_of-i.ensures.0 c.j_of-j.ensures.0 c.count_of-count.ensures.0 _ c.requires.ordered).1
-
-pub returns : goal.returns
-returns c =
-    λ p read.
-    let sum = total_read _ c.i_of-i.ensures.0 c.j_of-j.ensures.0 c.count_of-count.ensures.0 p in
-    let maintained = c.arc_cost-maintained.ensures.units p read in
-    let renovated = c.arc_cost-renovated.ensures.units p read in
-    let replaced = c.replaced-replacements.ensures.units p read in
-    omega arith
