@@ -59,7 +59,11 @@ pub fn replaced(f: Figures, chain: Chain) -> Option<u64> {
         total = total.wrapping_add(paid);
         start = end;
     }
-    if start == f.horizon { Some(total) } else { None }
+    if start == f.horizon {
+        Some(total)
+    } else {
+        None
+    }
 }
 
 // The total of the whole chain, from 0 to T.

@@ -70,7 +70,12 @@ fn planned(sheet: &[u8]) -> Outcome {
 }
 
 // Accepted with the total of the least chain, or refused by 11 where none is feasible; in both the option is 3.
-fn answer_differs(rt: &impl Print, number: u64, a: Answer, least: Option<Least>) -> io::Result<u64> {
+fn answer_differs(
+    rt: &impl Print,
+    number: u64,
+    a: Answer,
+    least: Option<Least>,
+) -> io::Result<u64> {
     let (refusal, total) = match least {
         Some(least) => (0, least.total),
         None => (11, 0),
