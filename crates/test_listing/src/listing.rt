@@ -68,11 +68,20 @@ fn sets(f: Figures, year: u64) -> u64 {
     1 << f.horizon.wrapping_sub(year).min(8)
 }
 
-fn over_ends(f: Figures, before: Listed, i: u64, j: u64) -> Listed {
+// The chains of one i and one j, each with what is its total.
+fn over_ends<F: Fn(Figures, Chain) -> Option<u64>>(
+    f: Figures,
+    before: Listed,
+    i: u64,
+    j: u64,
+    total: F,
+) -> Listed
+    requires { F.IsAlwaysCallable total }
+{
     let mut listed = before;
     for digits in 0..sets(f, j) {
         let chain = Chain::of(i, j, digits);
-        listed = listed.with(chain, priced(f, chain));
+        listed = listed.with(chain, total(f, chain));
     }
     listed
 }
@@ -80,7 +89,7 @@ fn over_ends(f: Figures, before: Listed, i: u64, j: u64) -> Listed {
 fn over_j(f: Figures, before: Listed, i: u64) -> Listed {
     let mut listed = before;
     for j in i..=f.horizon {
-        listed = over_ends(f, listed, i, j);
+        listed = over_ends(f, listed, i, j, priced);
     }
     listed
 }
@@ -96,10 +105,5 @@ pub fn chains(f: Figures) -> Listed {
 
 // The lists of replacements alone, from a year to T.
 pub fn replacements(f: Figures, year: u64) -> Listed {
-    let mut listed = Listed::NONE;
-    for digits in 0..sets(f, year) {
-        let chain = Chain::of(0, year, digits);
-        listed = listed.with(chain, replaced(f, chain));
-    }
-    listed
+    over_ends(f, Listed::NONE, 0, year, replaced)
 }

@@ -36,73 +36,74 @@ fn shown(rt: &(impl Files + Print), name: &str) -> io::Result<()> {
 }
 
 // Cases 6 to 12 of document 01, the paper's case study, and sheets on which all options, or replacements in every year, are taken.
-fn planned(rt: &(impl Files + Print)) -> io::Result<()> {
-    shown(rt, "case-06.sheet")?;
-    shown(rt, "case-07-and-08.sheet")?;
-    shown(rt, "case-09.sheet")?;
-    shown(rt, "case-10.sheet")?;
-    shown(rt, "case-11.sheet")?;
-    shown(rt, "case-12.sheet")?;
-    shown(rt, "pumping-station.sheet")?;
-    shown(rt, "all-three.sheet")?;
-    shown(rt, "every-year.sheet")
-}
+const PLANNED: [&str; 9] = [
+    "case-06.sheet",
+    "case-07-and-08.sheet",
+    "case-09.sheet",
+    "case-10.sheet",
+    "case-11.sheet",
+    "case-12.sheet",
+    "pumping-station.sheet",
+    "all-three.sheet",
+    "every-year.sheet",
+];
 
 // Document 01's run-only cases at their limits.
-fn run_only(rt: &(impl Files + Print)) -> io::Result<()> {
-    shown(rt, "inflation-at-the-rate.sheet")?;
-    shown(rt, "ageing-at-the-rate.sheet")
-}
+const RUN_ONLY: [&str; 2] = ["inflation-at-the-rate.sheet", "ageing-at-the-rate.sheet"];
 
 // Sheets of version 2, with removals.
-fn with_removal(rt: &(impl Files + Print)) -> io::Result<()> {
-    shown(rt, "case-12-removed.sheet")?;
-    shown(rt, "removals-unpaid.sheet")?;
-    shown(rt, "all-three-removed.sheet")?;
-    shown(rt, "pumping-station-removed.sheet")?;
-    shown(rt, "removals-at-their-limits.sheet")
-}
+const WITH_REMOVAL: [&str; 5] = [
+    "case-12-removed.sheet",
+    "removals-unpaid.sheet",
+    "all-three-removed.sheet",
+    "pumping-station-removed.sheet",
+    "removals-at-their-limits.sheet",
+];
 
 // Refusals 1 to 4.
-fn refused_by_the_header(rt: &(impl Files + Print)) -> io::Result<()> {
-    shown(rt, "refused-1-empty.sheet")?;
-    shown(rt, "refused-1-short.sheet")?;
-    shown(rt, "refused-1-long.sheet")?;
-    shown(rt, "refused-1-short-removed.sheet")?;
-    shown(rt, "refused-1-long-removed.sheet")?;
-    shown(rt, "refused-2-mark.sheet")?;
-    shown(rt, "refused-2-version.sheet")?;
-    shown(rt, "refused-2-version-removed.sheet")?;
-    shown(rt, "refused-3-none.sheet")?;
-    shown(rt, "refused-3-late.sheet")?;
-    shown(rt, "refused-4.sheet")
-}
+const REFUSED_BY_THE_HEADER: [&str; 11] = [
+    "refused-1-empty.sheet",
+    "refused-1-short.sheet",
+    "refused-1-long.sheet",
+    "refused-1-short-removed.sheet",
+    "refused-1-long-removed.sheet",
+    "refused-2-mark.sheet",
+    "refused-2-version.sheet",
+    "refused-2-version-removed.sheet",
+    "refused-3-none.sheet",
+    "refused-3-late.sheet",
+    "refused-4.sheet",
+];
 
 // Refusals 5 to 9.
-fn refused_by_a_record(rt: &(impl Files + Print)) -> io::Result<()> {
-    shown(rt, "refused-5-maintain.sheet")?;
-    shown(rt, "refused-5-replace.sheet")?;
-    shown(rt, "refused-6-renovate.sheet")?;
-    shown(rt, "refused-7-maintain.sheet")?;
-    shown(rt, "refused-7-replace.sheet")?;
-    shown(rt, "refused-8-renovate.sheet")?;
-    shown(rt, "refused-8-replace.sheet")?;
-    shown(rt, "refused-9-maintain.sheet")?;
-    shown(rt, "refused-9-renovate.sheet")?;
-    shown(rt, "refused-9-replace.sheet")
-}
+const REFUSED_BY_A_RECORD: [&str; 10] = [
+    "refused-5-maintain.sheet",
+    "refused-5-replace.sheet",
+    "refused-6-renovate.sheet",
+    "refused-7-maintain.sheet",
+    "refused-7-replace.sheet",
+    "refused-8-renovate.sheet",
+    "refused-8-replace.sheet",
+    "refused-9-maintain.sheet",
+    "refused-9-renovate.sheet",
+    "refused-9-replace.sheet",
+];
 
 // Refusals 6 and 7 of a removal.
-fn refused_by_a_removal(rt: &(impl Files + Print)) -> io::Result<()> {
-    shown(rt, "refused-6-removal.sheet")?;
-    shown(rt, "refused-7-removal.sheet")
+const REFUSED_BY_A_REMOVAL: [&str; 2] = ["refused-6-removal.sheet", "refused-7-removal.sheet"];
+
+fn all(rt: &(impl Files + Print), names: &[&str]) -> io::Result<()> {
+    for name in names {
+        shown(rt, name)?;
+    }
+    Ok(())
 }
 
 fn main(rt: HostRuntime) -> io::Result<()> {
-    planned(&rt)?;
-    run_only(&rt)?;
-    with_removal(&rt)?;
-    refused_by_the_header(&rt)?;
-    refused_by_a_record(&rt)?;
-    refused_by_a_removal(&rt)
+    all(&rt, &PLANNED)?;
+    all(&rt, &RUN_ONLY)?;
+    all(&rt, &WITH_REMOVAL)?;
+    all(&rt, &REFUSED_BY_THE_HEADER)?;
+    all(&rt, &REFUSED_BY_A_RECORD)?;
+    all(&rt, &REFUSED_BY_A_REMOVAL)
 }
