@@ -59,6 +59,14 @@ impl Activity {
     }
 }
 
+impl From<Activity> for u64 {
+    ghost from_gives = { λ activity option. option ≡ place activity };
+
+    fn from(activity: Activity) -> u64 {
+        activity as u64
+    }
+}
+
 // The activity with an option's number: an arc of another option is not offered.
 impl TryFrom<u64> for Activity {
     type Error = Refusal;

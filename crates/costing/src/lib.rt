@@ -5,7 +5,7 @@
 #![tactic(auto)]
 
 ghost use Rattle.std.specs.Prelude.{◌≡◌, ◌↔◌, ◌-◌, ◌*◌, ◌≤◌, IsOk, IfOk};
-ghost use Rattle.base.specs.Outcome.{answer_of};
+ghost use Rattle.base.specs.Outcome.{place, answer_of};
 ghost use Rattle.sheet.specs.Sheet.{PlanningSheet, sheet_of};
 ghost use Rattle.sheet.specs.Parsed.{parsed};
 ghost use Rattle.checking.specs.Passes.{Passes};
@@ -18,7 +18,7 @@ ghost use Rattle.costing.specs.Fit.{yearly};
 
 use base::{Activity, Refusal};
 use division::Divisor;
-use sheet::{RENOVATE, REPLACE, Sheet, Terms};
+use sheet::{Sheet, Terms};
 use steps::Units;
 
 pub mod arc;
@@ -47,21 +47,21 @@ pub struct Walk {
 pub fn keeps_motors(option: u64) -> bool
     ensures { result ≡ keeps_motors option }
 {
-    option == RENOVATE
+    option == Activity::Renovate as u64
 }
 
 // Whether an option pays removal where it ends before the horizon.
 pub fn pays_removal(option: u64) -> bool
     ensures { result ≡ pays_removal option }
 {
-    (option == RENOVATE) | (option == REPLACE)
+    (option == Activity::Renovate as u64) | (option == Activity::Replace as u64)
 }
 
-// The year since which the motors of an option that starts in a year are in service.
-fn since_of(option: u64, start: u64) -> u64
-    ensures { result ≡ since_of option start }
+// The year since which the motors of an activity that starts in a year are in service.
+fn since_of(activity: Activity, start: u64) -> u64
+    ensures { result ≡ since_of (place activity) start }
 {
-    if keeps_motors(option) {
+    if keeps_motors(u64::from(activity)) {
         return 0;
     }
     start
@@ -79,13 +79,13 @@ fn kept_on(terms: Terms, discount: u64, since: u64, start: u64) -> Kept
     }
 }
 
-// An option of a parsed sheet, kept from a year on.
-pub fn kept_of(sheet: Sheet, option: u64, start: u64) -> Kept
-    requires { option ≤ 2 }
-    ensures { result ≡ kept_of sheet option start }
+// An activity of a parsed sheet, kept from a year on.
+#[tactic(auto, using(base::proofs::OutcomeLaws::place_lt))]
+pub fn kept_of(sheet: Sheet, activity: Activity, start: u64) -> Kept
+    ensures { result ≡ kept_of sheet (place activity) start }
 {
-    let terms = sheet.options[option as usize];
-    kept_on(terms, sheet.discount, since_of(option, start), start)
+    let terms = sheet.options[activity.place()];
+    kept_on(terms, sheet.discount, since_of(activity, start), start)
 }
 
 impl Kept {
@@ -99,15 +99,15 @@ impl Kept {
 }
 
 // The cost of an arc of a parsed sheet that passes the checks: for the crates above, which parse a sheet once for many arcs.
-pub fn arc_cost(sheet: Sheet, option: u64, start: u64, end: u64) -> Units
-    requires { Fit sheet × (option ≤ 2) × (start ≤ end) × (end ≤ sheet.horizon) }
-    ensures units { (p : PlanningSheet) → sheet ≡ parsed p → result.0 ≡ cost (arc_of p option start end) }
+pub fn arc_cost(sheet: Sheet, activity: Activity, start: u64, end: u64) -> Units
+    requires { Fit sheet × (start ≤ end) × (end ≤ sheet.horizon) }
+    ensures units { (p : PlanningSheet) → sheet ≡ parsed p → result.0 ≡ cost (arc_of p (place activity) start end) }
     ensures room { result.0 ≤ (end - start) * yearly }
 {
-    let kept = kept_of(sheet, option, start);
+    let kept = kept_of(sheet, activity, start);
     kept.cost(
         Divisor::of(sheet.discount),
-        pays_removal(option),
+        pays_removal(u64::from(activity)),
         end - start,
         sheet.horizon,
     )
@@ -127,7 +127,7 @@ pub fn cost(sheet: &[u8], option: u64, start: u64, end: u64) -> Result<u64, Refu
         return Err(Refusal::NotOffered);
     }
     let discount = sheet::discount_of(sheet);
-    let kept = kept_on(terms, discount, since_of(option, start), start);
+    let kept = kept_on(terms, discount, since_of(activity, start), start);
     let units = kept.cost(
         Divisor::of(discount),
         pays_removal(option),

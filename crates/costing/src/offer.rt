@@ -5,7 +5,8 @@ ghost use Rattle.sheet.specs.Sheet.{PlanningSheet};
 ghost use Rattle.sheet.specs.Parsed.{parsed};
 ghost use Rattle.costing.specs.Offered.{placed, length_offered, offered};
 
-use sheet::{REPLACE, Sheet};
+use base::Activity;
+use sheet::Sheet;
 
 // Whether an option is known, the end is not above T nor before the start, and maintain starts in year 0.
 fn placed(horizon: u64, option: u64, start: u64, end: u64) -> bool
@@ -43,7 +44,7 @@ pub fn offered_by(
 pub fn offered(sheet: Sheet, option: u64, start: u64, end: u64) -> bool
     ensures { (p : PlanningSheet) → sheet ≡ parsed p → result ≡ offered p option start end }
 {
-    let known = option.min(REPLACE);
+    let known = option.min(Activity::Replace as u64);
     let terms = sheet.options[known as usize];
     offered_by(
         sheet.horizon,

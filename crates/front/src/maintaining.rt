@@ -11,8 +11,9 @@ ghost use Rattle.front.specs.Planned.{planned};
 ghost use Rattle.front.specs.Front.{TotalsHeld};
 
 use crate::keeping;
+use base::Activity;
 use division::Divisor;
-use sheet::{MAINTAIN, Sheet};
+use sheet::Sheet;
 use streams::lending;
 use tails::Lent;
 use weighing::Best;
@@ -24,8 +25,8 @@ pub fn best_maintain(totals: &[u64], sheet: Sheet, discount: Divisor) -> Best
     ensures { (p : PlanningSheet) → sheet ≡ parsed p → result ≡ in_short (planned p) }
 {
     let mut streams = [0u64; streams::PLACES];
-    let ages = lending::lend(&mut streams, sheet, discount, MAINTAIN);
-    let kept = costing::kept_of(sheet, MAINTAIN, 0);
+    let ages = lending::lend(&mut streams, sheet, discount, Activity::Maintain);
+    let kept = costing::kept_of(sheet, Activity::Maintain, 0);
     let lent = Lent {
         sheet,
         discount,

@@ -11,8 +11,9 @@ ghost use Rattle.tails.specs.Writing.{OptionLent};
 ghost use Rattle.front.specs.Front.{TailsLent, AheadLent, NoTotals, TotalsHeld, EndsHeld};
 
 use crate::keeping;
+use base::Activity;
 use division::Divisor;
-use sheet::{MAINTAIN, RENOVATE, Sheet, YEARS};
+use sheet::{Sheet, YEARS};
 use streams::lending;
 use tails::Lent;
 use weighing::ahead;
@@ -38,14 +39,14 @@ fn fill(totals: &mut [u64], ends: &mut [u64], words: &[u64], ahead: &[u64], lent
     ensures { TotalsHeld lent.now.sheet totals.new × WordsFit lent.now.sheet.horizon 0 totals.new × EndsHeld lent.now.sheet ends.new }
 {
     let horizon = lent.sheet.horizon;
-    let maintain = lent.sheet.options[MAINTAIN as usize];
+    let maintain = lent.sheet.options[Activity::Maintain as usize];
     let shortest = maintain.shortest;
     let top = maintain.longest.min(horizon);
     for i in 0..=top {
         if 0 < i && i < shortest {
             continue;
         }
-        let kept = costing::kept_of(lent.sheet, RENOVATE, i);
+        let kept = costing::kept_of(lent.sheet, Activity::Renovate, i);
         let behind = words[i as usize];
         let best = keeping::best_from(behind, ahead, lent, kept);
         totals[i as usize] = best.total;
@@ -67,7 +68,7 @@ pub fn renovations(
     ensures { TotalsHeld sheet totals.new × WordsFit sheet.horizon 0 totals.new × EndsHeld sheet ends.new }
 {
     let mut streams = [0u64; streams::PLACES];
-    let ages = lending::lend(&mut streams, sheet, discount, RENOVATE);
+    let ages = lending::lend(&mut streams, sheet, discount, Activity::Renovate);
     let lent = Lent {
         sheet,
         discount,

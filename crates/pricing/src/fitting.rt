@@ -6,9 +6,9 @@ ghost use Rattle.sheet.specs.Parsed.{parsed};
 ghost use Rattle.chain.specs.PlanBytes.{plan_size, ends_at, shaped};
 ghost use Rattle.pricing.specs.Fitting.{reaches, fitting};
 
-use base::numbers;
+use base::{Activity, numbers};
 use chain::reading;
-use sheet::{MAINTAIN, RENOVATE, REPLACE, Sheet};
+use sheet::Sheet;
 
 // Whether the bytes have a plan's length, mark and version.
 #[tactic(auto, using(crate::proofs::FittingLaws::mark_read), unfolding(chain::specs::PlanBytes::shaped))]
@@ -32,7 +32,7 @@ fn reaches(sheet: Sheet, start: u64, plan: &[u8], count: usize) -> bool
     let mut year = start;
     for k in 0..count {
         let end = reading::end_at(plan, k);
-        if !costing::offer::offered(sheet, REPLACE, year, end) {
+        if !costing::offer::offered(sheet, Activity::Replace as u64, year, end) {
             return false;
         }
         year = end;
@@ -49,11 +49,11 @@ pub fn plan_fits(sheet: Sheet, plan: &[u8]) -> bool
         return false;
     }
     let i = reading::i_of(plan);
-    if !costing::offer::offered(sheet, MAINTAIN, 0, i) {
+    if !costing::offer::offered(sheet, Activity::Maintain as u64, 0, i) {
         return false;
     }
     let j = reading::j_of(plan);
-    if !costing::offer::offered(sheet, RENOVATE, i, j) {
+    if !costing::offer::offered(sheet, Activity::Renovate as u64, i, j) {
         return false;
     }
     let count = reading::count_of(plan);

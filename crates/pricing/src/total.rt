@@ -9,8 +9,9 @@ ghost use Rattle.chain.specs.Chain.{replacements, spent, rounded_total};
 ghost use Rattle.chain.specs.PlanBytes.{plan_size, count_field, ends_at, decode};
 ghost use Rattle.chain.specs.Ordered.{Climbs, Ordered};
 
+use base::Activity;
 use chain::reading;
-use sheet::{MAINTAIN, RENOVATE, REPLACE, Sheet};
+use sheet::Sheet;
 use steps::Units;
 
 // What replacements from a year on cost: that many, whose ends stand from byte 19 on.
@@ -25,7 +26,7 @@ fn replaced(sheet: Sheet, start: u64, plan: &[u8], count: usize) -> Units
     let mut sum = 0;
     for k in 0..count {
         let end = reading::end_at(plan, k);
-        sum += costing::arc_cost(sheet, REPLACE, year, end).0;
+        sum += costing::arc_cost(sheet, Activity::Replace, year, end).0;
         year = end;
     }
     Units(sum)
@@ -41,8 +42,8 @@ pub fn plan_total(sheet: Sheet, plan: &[u8]) -> Units
     let i = reading::i_of(plan);
     let j = reading::j_of(plan);
     let count = reading::count_of(plan);
-    let maintained = costing::arc_cost(sheet, MAINTAIN, 0, i);
-    let renovated = costing::arc_cost(sheet, RENOVATE, i, j);
+    let maintained = costing::arc_cost(sheet, Activity::Maintain, 0, i);
+    let renovated = costing::arc_cost(sheet, Activity::Renovate, i, j);
     let replacements = replaced(sheet, j, plan, count);
     let later = renovated.0 + replacements.0;
     let sum = maintained.0 + later;

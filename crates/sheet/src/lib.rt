@@ -28,13 +28,6 @@ pub const LONG_SHEET_LENGTH: usize = RECORDS + LONG_RECORD_LENGTH * 3;
 // T is at most 300: a list by years has a place for each of the years 0 to 300.
 pub const YEARS: usize = 301;
 
-// The options by their numbers.
-pub const MAINTAIN: u64 = 0;
-
-pub const RENOVATE: u64 = 1;
-
-pub const REPLACE: u64 = 2;
-
 // An amount with the factors of its rates: `grow` is 1,000,000 + inflation, `age` is 1,000,000 + ageing.
 #[derive(Clone, Copy)]
 pub struct Flow {

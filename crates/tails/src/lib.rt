@@ -12,8 +12,9 @@ ghost use Rattle.tails.specs.Words.{words_needed, total_of, first_end};
 ghost use Rattle.tails.specs.Cheapest.{CheapestWords};
 ghost use Rattle.tails.specs.Writing.{AllWritten};
 
+use base::Activity;
 use division::Divisor;
-use sheet::{REPLACE, Sheet};
+use sheet::Sheet;
 
 mod words;
 
@@ -39,7 +40,7 @@ pub fn tail_words(words: &mut [u64], firsts: &mut [u64], sheet: Sheet)
 {
     let discount = Divisor::of(sheet.discount);
     let mut streams = [0u64; streams::PLACES];
-    let ages = streams::lending::lend(&mut streams, sheet, discount, REPLACE);
+    let ages = streams::lending::lend(&mut streams, sheet, discount, Activity::Replace);
     let lent = Lent {
         sheet,
         discount,

@@ -7,7 +7,8 @@ ghost use Rattle.tails.specs.Words.{words_needed, total_of, first_end};
 ghost use Rattle.tails.specs.Writing.{AheadHeld, ChosenBehind, Settles, YearWritten, TwoWritten, LastWritten, AllWritten, FillableBy, OptionLent};
 
 use crate::Lent;
-use sheet::{REPLACE, YEARS};
+use base::Activity;
+use sheet::YEARS;
 use weighing::Best;
 use weighing::ahead::look_ahead;
 
@@ -49,7 +50,7 @@ impl Lent<'_> {
         ensures firsts { YearWritten first_end self.now.sheet year firsts.old firsts.new }
         ensures ahead { AheadHeld replace self.now.sheet year ahead.new }
     {
-        let kept = costing::kept_of(self.sheet, REPLACE, year);
+        let kept = costing::kept_of(self.sheet, Activity::Replace, year);
         let chosen = weighing::best_end(
             ahead,
             self.streams,
@@ -93,7 +94,7 @@ impl Lent<'_> {
         let horizon = self.sheet.horizon;
         let start = reached - 1;
         let from = reached - 2;
-        let kept = costing::kept_of(self.sheet, REPLACE, from);
+        let kept = costing::kept_of(self.sheet, Activity::Replace, from);
         let next = kept.starting(start);
         let years = kept.terms.longest.min(horizon - from);
         let mut earlier = [0u64; 120];

@@ -1,6 +1,9 @@
 -- The cost of an arc of a sheet: that of the option which the sheet's terms give, kept from the start. Assumes nothing.
 use mathlib.Core.Path.{ap, sym, subst, ◌∙◌}
+use Prim.Native.Nat.{◌≤◌}
 use native.Mathlib.Omega.{arith}
+use Rattle.base.specs.Outcome.{place}
+use Rattle.base.proofs.OutcomeLaws.{place_lt}
 use Rattle.sheet.proofs.ParsedLaws.{horizon_read}
 use Rattle.costing.specs.Fit.{KeptFits}
 use Rattle.costing.specs.declared.Kept.{Kept}
@@ -10,12 +13,13 @@ use Rattle.costing.proofs.arc_cost.Goals as goal
 pub returns : goal.returns
 returns c =
     let a = c.args in
-    let h = c.requires in record {
+    let h = c.requires in
+    let known : place a.activity ≤ 2 = omega (arith, place_lt a.activity) in record {
       units = λ p read.
           c.cost.ensures
-          ∙ cost_whole p a.option a.start a.end (c.kept_of-kept.ensures ∙ kept_read p _ _ _ _ read h.1) c.pays_removal.ensures
+          ∙ cost_whole p (place a.activity) a.start a.end (c.kept_of-kept.ensures ∙ kept_read p _ _ _ _ read known) (rw c.from.ensures at c.pays_removal.ensures)
           (horizon_read _ p read);
-      room = kept_of-room _ h.0 _ _ _ h.1 h.2 h.3 _ c.kept_of-kept.ensures c.cost.ensures;
+      room = kept_of-room _ h.0 _ _ _ known h.1 h.2 _ c.kept_of-kept.ensures c.cost.ensures;
     }
 
 pub of-requires : goal.of-requires
@@ -25,7 +29,7 @@ pub cost-requires : goal.cost-requires
 cost-requires c =
     let d = c.of.ensures in (
       record {
-        fits = subst KeptFits (sym c.kept_of-kept.ensures) (kept_of_fits _ c.requires.0 _ _ c.requires.1 (omega arith));
+        fits = subst KeptFits (sym c.kept_of-kept.ensures) (kept_of_fits _ c.requires.0 _ _ (omega (arith, place_lt c.args.activity)) (omega arith));
         divides = record { ready = d.ready; number = d.number ∙ sym (ap (λ (a : Kept). a.discount) c.kept_of-kept.ensures) };
       },
       omega (arith, c.requires.0.horizon_high),

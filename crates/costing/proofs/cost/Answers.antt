@@ -14,7 +14,7 @@ use Rattle.sheet.specs.Parsed.{terms_of}
 use Rattle.checking.specs.Passes.{Passes}
 use Rattle.checking.proofs.PassesLaws.{header_sized, checked-iff}
 use Rattle.checking.proofs.FitLaws.{fit}
-use Rattle.costing.specs.Arc.{arc_of}
+use Rattle.costing.specs.Arc.{since_of, arc_of}
 use Rattle.costing.specs.Offered.{offered}
 use Rattle.costing.specs.Costing.{costed}
 use Rattle.costing.specs.Fit.{KeptFits}
@@ -76,7 +76,8 @@ cost-units-requires c =
     let tested = c.offered_by.ensures ∙ offered_on p a.option a.start a.end c.horizon_of-horizon.ensures terms in
     let o = (offered-iff p a.option a.start a.end).0 (sym tested ∙ c.if-not-offered_by.false) in
     let passes : Passes a.sheet.now = c.check.ensures.accepted.0 (rw c.in_ok-check.was refl) in
-    let made = c.kept_on-kept.ensures ∙ kept_made p a.option a.start a.end terms c.discount_of-discount.ensures c.since_of.ensures in
+    let since = c.since_of.ensures ∙ ap (λ (k : ℕ). since_of k a.start) c.in_ok-activity.ensures in
+    let made = c.kept_on-kept.ensures ∙ kept_made p a.option a.start a.end terms c.discount_of-discount.ensures since in
     let same : c.of.result.by ≡ c.kept_on-kept.result.discount = c.of.ensures.number ∙ sym (ap (λ (k : Kept). k.discount) c.kept_on-kept.ensures) in (
       record {
         fits = subst KeptFits (sym made) (kept_fits p a.option a.start a.end (fit _ passes) o.known (omega (arith, o.forward, o.inside)));
@@ -91,7 +92,8 @@ returns c =
     let p = sheet_of a.sheet.now in
     let terms = c.terms_of-terms.ensures ∙ ap (λ (k : ℕ). terms_of (p.option k)) c.in_ok-activity.ensures in
     let tested = c.offered_by.ensures ∙ offered_on p a.option a.start a.end c.horizon_of-horizon.ensures terms in
-    let made = c.kept_on-kept.ensures ∙ kept_made p a.option a.start a.end terms c.discount_of-discount.ensures c.since_of.ensures in
+    let since = c.since_of.ensures ∙ ap (λ (k : ℕ). since_of k a.start) c.in_ok-activity.ensures in
+    let made = c.kept_on-kept.ensures ∙ kept_made p a.option a.start a.end terms c.discount_of-discount.ensures since in
     let passes : Passes a.sheet.now = c.check.ensures.accepted.0 (rw c.in_ok-check.was refl) in
     let units = c.cost-units.ensures ∙ cost_whole p a.option a.start a.end made c.pays_removal.ensures c.horizon_of-horizon.ensures in
     let t = ap accepted units ∙ cost-offered a.sheet.now a.option a.start a.end ((checked-iff _).1 passes) (sym tested ∙ c.if-not-offered_by.false) in

@@ -3,6 +3,7 @@ use Prim.Native.Nat.{ℕ}
 use mathlib.Core.Path.{refl, subst}
 use native.Mathlib.Omega.{arith}
 use lib.ListN.{get_or}
+use Rattle.base.specs.Outcome.{place}
 use Rattle.sheet.specs.Parsed.{no_terms}
 use Rattle.costing.specs.Arc.{electricity}
 use Rattle.streams.specs.Streams.{Streams}
@@ -12,10 +13,10 @@ use Rattle.streams.proofs.lending.lend.Goals as goal
 pub returns : goal.returns
 unfolding electricity
 returns c =
-    let filled = c.fill in
-    let terms = get_or c.args.sheet.options c.args.option no_terms in
+    let filled = rw (c.place.ensures, c.from.ensures) at c.fill.ensures in
+    let terms = get_or c.args.sheet.options (place c.args.activity) no_terms in
     let number = c.requires.fit.1.number in (
-      subst (λ (d : ℕ). Streams d terms c.args.sheet.horizon filled.new.streams) number filled.ensures.paid,
+      subst (λ (d : ℕ). Streams d terms c.args.sheet.horizon c.fill.new.streams) number filled.paid,
       refl,
-      power_same terms.electricity c.args.sheet.horizon filled.new.streams number (omega arith) filled.ensures.power,
+      power_same terms.electricity c.args.sheet.horizon c.fill.new.streams number (omega arith) filled.power,
     )
