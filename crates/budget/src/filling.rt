@@ -31,18 +31,18 @@ fn clear(words: &mut [u64], last: u64)
 // Adds what an activity of the sheet pays.
 fn add_activity<L: Ledger>(
     words: &mut [u64],
-    sheet: Sheet,
+    sheet: &Sheet,
     ledger: L,
     option: u64,
     start: u64,
     end: u64,
 )
-    requires list_asks { ListAsks (L.ready ledger) (L.counts ledger) words.old sheet start }
-    requires option_bound { (option ≤ 2) × (start ≤ end) × (end ≤ sheet.horizon) }
-    ensures paid { (p : PlanningSheet) → sheet ≡ parsed p → Raised (L.figure ledger) words.old words.new (payments (arc_of p option start end)) }
-    ensures room { Room (L.counts ledger) words.new sheet.horizon (end * yearly) }
+    requires list_asks { ListAsks (L.ready ledger) (L.counts ledger) words.old sheet.now start }
+    requires option_bound { (option ≤ 2) × (start ≤ end) × (end ≤ sheet.now.horizon) }
+    ensures paid { (p : PlanningSheet) → sheet.now ≡ parsed p → Raised (L.figure ledger) words.old words.new (payments (arc_of p option start end)) }
+    ensures room { Room (L.counts ledger) words.new sheet.now.horizon (end * yearly) }
 {
-    let kept = costing::kept_of(sheet, option, start);
+    let kept = costing::kept_of(*sheet, option, start);
     let removed = costing::pays_removal(option);
     spreading::add_arc(words, kept, ledger, removed, end - start, sheet.horizon);
 }
@@ -50,15 +50,15 @@ fn add_activity<L: Ledger>(
 // Adds what replacements from a year on pay: that many, whose ends stand from byte 19 on.
 fn add_replacements<L: Ledger>(
     words: &mut [u64],
-    sheet: Sheet,
+    sheet: &Sheet,
     ledger: L,
     start: u64,
     plan: &[u8],
     count: usize,
 )
-    requires list_asks { ListAsks (L.ready ledger) (L.counts ledger) words.old sheet start × (plan_size count ≤ length plan.now) }
-    requires climbs { Climbs sheet.horizon start (ends_at plan.now 19 count) }
-    ensures { (p : PlanningSheet) → sheet ≡ parsed p → Raised (L.figure ledger) words.old words.new (payments_of (arcs_of p (replacements start (ends_at plan.now 19 count)))) }
+    requires list_asks { ListAsks (L.ready ledger) (L.counts ledger) words.old sheet.now start × (plan_size count ≤ length plan.now) }
+    requires climbs { Climbs sheet.now.horizon start (ends_at plan.now 19 count) }
+    ensures { (p : PlanningSheet) → sheet.now ≡ parsed p → Raised (L.figure ledger) words.old words.new (payments_of (arcs_of p (replacements start (ends_at plan.now 19 count)))) }
 {
     let mut year = start;
     for k in 0..count {
@@ -69,9 +69,9 @@ fn add_replacements<L: Ledger>(
 }
 
 // Adds what the chain pays, as a ledger counts it.
-fn add_chain<L: Ledger>(words: &mut [u64], sheet: Sheet, ledger: L, plan: &[u8])
-    requires { ListAsks (L.ready ledger) (L.counts ledger) words.old sheet 0 × PlanAsks plan.now sheet.horizon }
-    ensures { (p : PlanningSheet) → sheet ≡ parsed p → Raised (L.figure ledger) words.old words.new (payments_of (arcs p (decode plan.now))) }
+fn add_chain<L: Ledger>(words: &mut [u64], sheet: &Sheet, ledger: L, plan: &[u8])
+    requires { ListAsks (L.ready ledger) (L.counts ledger) words.old sheet.now 0 × PlanAsks plan.now sheet.now.horizon }
+    ensures { (p : PlanningSheet) → sheet.now ≡ parsed p → Raised (L.figure ledger) words.old words.new (payments_of (arcs p (decode plan.now))) }
 {
     let i = numbers::u16_at(plan, 13);
     let j = numbers::u16_at(plan, 15);
@@ -94,6 +94,6 @@ pub fn fill(units: &mut [u64], cents: &mut [u64], sheet: Sheet, general: u64, pl
     };
     clear(units, sheet.horizon);
     clear(cents, money.last);
-    add_chain(units, sheet, discount, plan);
-    add_chain(cents, sheet, money, plan);
+    add_chain(units, &sheet, discount, plan);
+    add_chain(cents, &sheet, money, plan);
 }

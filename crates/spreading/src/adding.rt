@@ -36,7 +36,7 @@ fn add_overhauls<L: Ledger>(words: &mut [u64], kept: Kept, ledger: L, years: u64
     requires { KeptFits kept × L.ready ledger kept.discount × (years ≤ 300) × Room (L.counts ledger) words.old (kept.from + years) before_arc }
     ensures { Raised (L.figure ledger) words.old words.new (overhauls_below kept years) }
 {
-    let overhauls = kept.terms.overhauls;
+    let overhauls = &kept.terms.overhauls;
     for j in 0..overhauls.count as usize {
         let age = overhauls.ages[j];
         if age < years {
@@ -89,14 +89,13 @@ fn add_paid<L: Ledger>(words: &mut [u64], kept: Kept, ledger: L, years: u64)
     if years == 0 {
         return;
     }
-    let terms = kept.terms;
-    let investment = terms.investment;
+    let investment = kept.terms.investment;
     add_once(words, ledger, investment.amount, investment.grow, kept.from);
     add_overhauls(words, kept, ledger, years);
     add_flow(
         words,
         ledger,
-        terms.maintenance,
+        kept.terms.maintenance,
         kept.from,
         kept.from,
         years,
@@ -104,7 +103,7 @@ fn add_paid<L: Ledger>(words: &mut [u64], kept: Kept, ledger: L, years: u64)
     add_flow(
         words,
         ledger,
-        terms.electricity,
+        kept.terms.electricity,
         kept.since,
         kept.from,
         years,

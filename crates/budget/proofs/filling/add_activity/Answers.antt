@@ -19,16 +19,16 @@ add_arc-requires g c =
     let made = c.kept_of-kept.ensures in
     let from = ap (λ (k : Kept). k.from) made in
     record {
-      fits = subst KeptFits (sym made) (kept_of_fits a.sheet h.fit a.option a.start o.0 (omega arith));
+      fits = subst KeptFits (sym made) (kept_of_fits a.sheet.now h.fit a.option a.start o.0 (omega arith));
       suits = subst (g.L.Ledger.ready a.ledger) (sym (ap (λ (k : Kept). k.discount) made)) h.suits;
       few = omega (arith, h.fit.horizon_high);
-      room = room_within (g.L.Ledger.counts a.ledger) a.sheet.horizon (a.start * yearly) _ _ a.words.now h.room (omega (arith, from)) (rw from (omega arith));
+      room = room_within (g.L.Ledger.counts a.ledger) a.sheet.now.horizon (a.start * yearly) _ _ a.words.now h.room (omega (arith, from)) (rw from (omega arith));
     }
 
 pub returns-clause-paid : goal.returns-clause-paid
 returns-clause-paid g c =
     let a = c.args in
-    arc_read a.sheet a.option a.start a.end c.requires.option_bound.0 c.kept_of-kept.result c.kept_of-kept.ensures c.pays_removal-removed.result
+    arc_read a.sheet.now a.option a.start a.end c.requires.option_bound.0 c.kept_of-kept.result c.kept_of-kept.ensures c.pays_removal-removed.result
     c.pays_removal-removed.ensures a.words.now c.add_arc.new.words (g.L.Ledger.figure a.ledger) c.add_arc.ensures
 
 pub returns-clause-room : goal.returns-clause-room
@@ -41,8 +41,8 @@ returns-clause-room g c =
     let made = c.kept_of-kept.ensures in
     let kept = c.kept_of-kept.result in
     let φ = g.L.Ledger.figure a.ledger in
-    let fits = subst KeptFits (sym made) (kept_of_fits a.sheet h.fit a.option a.start o.0 (omega arith)) in
+    let fits = subst KeptFits (sym made) (kept_of_fits a.sheet.now h.fit a.option a.start o.0 (omega arith)) in
     let suits = subst (g.L.Ledger.ready a.ledger) (sym (ap (λ (k : Kept). k.discount) made)) h.suits in
     let small = ledger_small (g.L.Ledger.ready a.ledger) kept fits suits φ (g.met.L.Ledger.small a.ledger) (a.end - a.start) (omega (arith, h.fit.horizon_high)) in
-    arc-room a.sheet a.option a.start a.end o.0 kept made c.pays_removal-removed.result c.pays_removal-removed.ensures a.words.now c.add_arc.new.words
+    arc-room a.sheet.now a.option a.start a.end o.0 kept made c.pays_removal-removed.result c.pays_removal-removed.ensures a.words.now c.add_arc.new.words
     φ c.add_arc.ensures h.fit o.1 o.2 small (g.L.Ledger.counts a.ledger) h.room c.add_arc.auto.words

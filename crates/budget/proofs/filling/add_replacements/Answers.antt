@@ -24,7 +24,7 @@ pub add_activity-requires-clause-option_bound : goal.add_activity-requires-claus
 add_activity-requires-clause-option_bound g c =
     let a = c.args in
     let l = c.loop-k in
-    let n = climbs_more a.plan.now a.count l.k c.loop-k-test.true c.u16_at-end.ensures.0 a.sheet.horizon l.year l.invariant.climbs in
+    let n = climbs_more a.plan.now a.count l.k c.loop-k-test.true c.u16_at-end.ensures.0 a.sheet.now.horizon l.year l.invariant.climbs in
     let up = n.0 in
     (omega arith, omega arith, n.1.early)
 
@@ -35,7 +35,7 @@ loop-k-preserved g c =
     let plan = a.plan.now in
     let φ = g.L.Ledger.figure a.ledger in
     let read = c.u16_at-end.ensures.0 in
-    let n = climbs_more plan a.count l.k c.loop-k-test.true read a.sheet.horizon l.year l.invariant.climbs in
+    let n = climbs_more plan a.count l.k c.loop-k-test.true read a.sheet.now.horizon l.year l.invariant.climbs in
     record {
       in_range = omega (arith, c.loop-k-test.true);
       climbs = n.1;
