@@ -40,11 +40,11 @@ pub fn arc(o: Terms, rate: u64, since: u64, start: u64, years: u64) -> u64 {
 }
 
 // Paid in the end year, if that is before T.
-fn removed(r: Removal, rate: u64, end: u64, horizon: u64) -> u64 {
-    if horizon <= end {
-        return 0;
+fn removed(removal: Option<Removal>, rate: u64, end: u64, horizon: u64) -> u64 {
+    match removal {
+        Some(r) if end < horizon => plain(units(r.amount), r.growth, rate, end),
+        _ => 0,
     }
-    plain(units(r.amount), r.growth, rate, end)
 }
 
 // A renovation or a replacement.

@@ -1,13 +1,10 @@
 // Whether the removals of a sheet change which of its chains is taken.
 
-use crate::figures::{Figures, NO_REMOVAL, Terms};
+use crate::figures::{Figures, Terms};
 use crate::listing::{Listed, chains};
 
 fn without_removal(o: Terms) -> Terms {
-    Terms {
-        removal: NO_REMOVAL,
-        ..o
-    }
+    Terms { removal: None, ..o }
 }
 
 pub fn by_removals(f: Figures, listed: Listed) -> bool {

@@ -23,18 +23,13 @@ pub struct Overhauls {
     pub entries: [Overhaul; 8],
 }
 
-// 0 and without inflation on a sheet of version 1, which has no removals.
 #[derive(Clone, Copy)]
 pub struct Removal {
     pub amount: u64,
     pub growth: u64,
 }
 
-pub const NO_REMOVAL: Removal = Removal {
-    amount: 0,
-    growth: 1_000_000,
-};
-
+// A sheet of version 1 has no removals.
 #[derive(Clone, Copy)]
 pub struct Terms {
     pub shortest: u64,
@@ -44,7 +39,7 @@ pub struct Terms {
     pub maintenance: Yearly,
     pub electricity: Yearly,
     pub overhauls: Overhauls,
-    pub removal: Removal,
+    pub removal: Option<Removal>,
 }
 
 #[derive(Clone, Copy)]

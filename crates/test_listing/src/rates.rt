@@ -1,10 +1,9 @@
 // Rates and amounts that pass the checks.
 
-// What is drawn once for a sheet: the rate r; whether all its inflations and ageings are 0; and the number that amounts stay below.
+// What is drawn once for a sheet: the rate r, or none where r and all inflations and ageings are 0; and the number that amounts stay below.
 #[derive(Clone, Copy)]
 pub struct Manner {
-    pub rate: u64,
-    pub flat: bool,
+    pub rate: Option<u64>,
     pub scale: u64,
 }
 
@@ -21,18 +20,17 @@ fn scale(x: u64) -> u64 {
 pub fn manner_of(a: u64, b: u64, c: u64) -> Manner {
     let flat = a % 2 == 0;
     Manner {
-        rate: if flat { 0 } else { c % 200_001 },
-        flat,
+        rate: if flat { None } else { Some(c % 200_001) },
         scale: scale(b),
     }
 }
 
 // 1,000,000 + f, with f from −100,000 to r: 0, r or any.
 pub fn growth(m: Manner, kind: u64, x: u64) -> u64 {
-    if m.flat {
+    let Some(drawn) = m.rate else {
         return 1_000_000;
-    }
-    let rate = m.rate.min(200_000);
+    };
+    let rate = drawn.min(200_000);
     match kind % 4 {
         0 => 1_000_000,
         1 => 1_000_000 + rate,
@@ -41,18 +39,18 @@ pub fn growth(m: Manner, kind: u64, x: u64) -> u64 {
 }
 
 // The largest g that passes check 8.
-fn most_ageing(m: Manner, growth: u64) -> u64 {
-    let room = 1_000_000 * (1_000_000 + m.rate.min(200_000));
+fn most_ageing(rate: u64, growth: u64) -> u64 {
+    let room = 1_000_000 * (1_000_000 + rate.min(200_000));
     room.checked_div(growth)
         .map_or(0, |most| most.wrapping_sub(1_000_000).min(300_000))
 }
 
 // 1,000,000 + g: g is 0, the largest or any.
 pub fn ageing(m: Manner, growth: u64, kind: u64, x: u64) -> u64 {
-    if m.flat {
+    let Some(rate) = m.rate else {
         return 1_000_000;
-    }
-    let most = most_ageing(m, growth).min(300_000);
+    };
+    let most = most_ageing(rate, growth).min(300_000);
     match kind % 4 {
         0 => 1_000_000,
         1 => 1_000_000 + most,

@@ -1,7 +1,7 @@
 // The sheets, made from draws.
 
 use crate::draws::draws;
-use crate::figures::{Figures, NO_REMOVAL, Overhaul, Overhauls, Removal, Terms, Yearly};
+use crate::figures::{Figures, Overhaul, Overhauls, Removal, Terms, Yearly};
 use crate::rates::{Manner, ageing, amount, growth, manner_of};
 
 fn yearly(m: Manner, a: u64, b: u64, c: u64, d: u64) -> Yearly {
@@ -35,14 +35,14 @@ fn overhauls(m: Manner, drawn: [u64; 32]) -> Overhauls {
     }
 }
 
-fn removal(m: Manner, drawn: [u64; 32], version: u64) -> Removal {
+fn removal(m: Manner, drawn: [u64; 32], version: u64) -> Option<Removal> {
     if version == 1 {
-        return NO_REMOVAL;
+        return None;
     }
-    Removal {
+    Some(Removal {
         amount: amount(m, drawn[28], drawn[29]),
         growth: growth(m, drawn[30], drawn[7]),
-    }
+    })
 }
 
 // One option in five is not offered.
@@ -84,7 +84,7 @@ pub fn figures(seed: u64) -> Figures {
     Figures {
         version,
         horizon: 1 + (drawn[4] % 10).min(7),
-        rate: m.rate,
+        rate: m.rate.unwrap_or(0),
         maintain: terms(m, first, version),
         renovate: terms(m, second, version),
         replace: terms(m, third, version),

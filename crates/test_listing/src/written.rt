@@ -25,21 +25,21 @@ impl Bytes {
         b
     }
 
-    fn with_removal(self, r: Removal, version: u64) -> Bytes {
-        if version == 1 {
-            return self;
+    fn with_removal(self, removal: Option<Removal>) -> Bytes {
+        match removal {
+            Some(r) => self.with32(r.amount).with_rate(r.growth),
+            None => self,
         }
-        self.with32(r.amount).with_rate(r.growth)
     }
 
-    fn with_terms(self, o: Terms, version: u64) -> Bytes {
+    fn with_terms(self, o: Terms) -> Bytes {
         let lives = self.with16(o.shortest).with16(o.longest);
         let invested = lives.with32(o.investment).with_rate(o.growth);
         invested
             .with_yearly(o.maintenance)
             .with_yearly(o.electricity)
             .with_overhauls(o.overhauls)
-            .with_removal(o.removal, version)
+            .with_removal(o.removal)
     }
 }
 
@@ -54,8 +54,8 @@ pub fn sheet(f: Figures) -> [u8; 302] {
     let mark = Bytes::new(0).with(b"RCS");
     let header = mark.with16(f.version).with16(f.horizon).with32(f.rate);
     let whole = header
-        .with_terms(f.maintain, f.version)
-        .with_terms(f.renovate, f.version)
-        .with_terms(f.replace, f.version);
+        .with_terms(f.maintain)
+        .with_terms(f.renovate)
+        .with_terms(f.replace);
     whole.bytes
 }
