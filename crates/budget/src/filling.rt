@@ -2,6 +2,7 @@
 
 ghost use Rattle.std.specs.Prelude.{◌≡◌, ℕ, ◌+◌, ◌*◌, ◌<◌, ◌≤◌, length, get_or};
 ghost use Rattle.std.proofs.lemmas.List.Edits.{sets};
+ghost use Rattle.base.specs.Outcome.{place};
 ghost use Rattle.sheet.specs.Sheet.{PlanningSheet};
 ghost use Rattle.sheet.specs.Parsed.{parsed};
 ghost use Rattle.costing.specs.Arc.{arc_of, payments};
@@ -14,9 +15,9 @@ ghost use Rattle.spreading.specs.Asks.{Room};
 ghost use Rattle.budget.specs.Budget.{payments_of, units_of, cents_of};
 ghost use Rattle.budget.specs.Asks.{ListAsks, PlanAsks, FillAsks};
 
-use base::numbers;
+use base::{Activity, numbers};
 use division::Divisor;
-use sheet::{MAINTAIN, RENOVATE, REPLACE, Sheet};
+use sheet::Sheet;
 use spreading::{Ledger, Money};
 
 // Clears the words of the years 0 to last.
@@ -33,17 +34,17 @@ fn add_activity<L: Ledger>(
     words: &mut [u64],
     sheet: &Sheet,
     ledger: L,
-    option: u64,
+    activity: Activity,
     start: u64,
     end: u64,
 )
     requires list_asks { ListAsks (L.ready ledger) (L.counts ledger) words.old sheet.now start }
-    requires option_bound { (option ≤ 2) × (start ≤ end) × (end ≤ sheet.now.horizon) }
-    ensures paid { (p : PlanningSheet) → sheet.now ≡ parsed p → Raised (L.figure ledger) words.old words.new (payments (arc_of p option start end)) }
+    requires in_order { (start ≤ end) × (end ≤ sheet.now.horizon) }
+    ensures paid { (p : PlanningSheet) → sheet.now ≡ parsed p → Raised (L.figure ledger) words.old words.new (payments (arc_of p (place activity) start end)) }
     ensures room { Room (L.counts ledger) words.new sheet.now.horizon (end * yearly) }
 {
-    let kept = costing::kept_of(*sheet, option, start);
-    let removed = costing::pays_removal(option);
+    let kept = costing::kept_of(*sheet, activity, start);
+    let removed = costing::pays_removal(u64::from(activity));
     spreading::add_arc(words, kept, ledger, removed, end - start, sheet.horizon);
 }
 
@@ -63,7 +64,7 @@ fn add_replacements<L: Ledger>(
     let mut year = start;
     for k in 0..count {
         let end = numbers::u16_at(plan, 19 + 2 * k);
-        add_activity(words, sheet, ledger, REPLACE, year, end);
+        add_activity(words, sheet, ledger, Activity::Replace, year, end);
         year = end;
     }
 }
@@ -76,8 +77,8 @@ fn add_chain<L: Ledger>(words: &mut [u64], sheet: &Sheet, ledger: L, plan: &[u8]
     let i = numbers::u16_at(plan, 13);
     let j = numbers::u16_at(plan, 15);
     let count = numbers::u16_at(plan, 17);
-    add_activity(words, sheet, ledger, MAINTAIN, 0, i);
-    add_activity(words, sheet, ledger, RENOVATE, i, j);
+    add_activity(words, sheet, ledger, Activity::Maintain, 0, i);
+    add_activity(words, sheet, ledger, Activity::Renovate, i, j);
     add_replacements(words, sheet, ledger, j, plan, count as usize);
 }
 

@@ -17,12 +17,6 @@ pub fn lend(streams: &mut [u64], sheet: Sheet, discount: Divisor, activity: Acti
     ensures { Lent sheet (place activity) streams.new result }
 {
     let terms = sheet.options[activity.place()];
-    crate::fill(
-        streams,
-        terms,
-        u64::from(activity),
-        discount,
-        sheet.horizon,
-    );
+    crate::fill(streams, terms, u64::from(activity), discount, sheet.horizon);
     terms.overhauls.ages
 }

@@ -1,7 +1,9 @@
 -- An arc of the sheet: that of the option which the sheet's terms give, kept from the start. Assumes nothing.
-use Prim.Native.Nat.{◌-◌, ◌*◌}
+use Prim.Native.Nat.{◌-◌, ◌*◌, ◌≤◌}
 use mathlib.Core.Path.{ap, sym, subst}
 use native.Mathlib.Omega.{arith}
+use Rattle.base.specs.Outcome.{place}
+use Rattle.base.proofs.OutcomeLaws.{place_lt}
 use Rattle.costing.specs.Fit.{KeptFits, yearly}
 use Rattle.costing.specs.declared.Kept.{Kept}
 use Rattle.costing.proofs.SheetArcLaws.{kept_of_fits}
@@ -13,13 +15,14 @@ pub add_arc-requires : goal.add_arc-requires
 add_arc-requires g c =
     let a = c.args in
     let h = c.requires.list_asks in
-    let o = c.requires.option_bound in
-    let forward = o.1 in
-    let inside = o.2 in
+    let o = c.requires.in_order in
+    let known : place a.activity ≤ 2 = omega (arith, place_lt a.activity) in
+    let forward = o.0 in
+    let inside = o.1 in
     let made = c.kept_of-kept.ensures in
     let from = ap (λ (k : Kept). k.from) made in
     record {
-      fits = subst KeptFits (sym made) (kept_of_fits a.sheet.now h.fit a.option a.start o.0 (omega arith));
+      fits = subst KeptFits (sym made) (kept_of_fits a.sheet.now h.fit (place a.activity) a.start known (omega arith));
       suits = subst (g.L.Ledger.ready a.ledger) (sym (ap (λ (k : Kept). k.discount) made)) h.suits;
       few = omega (arith, h.fit.horizon_high);
       room = room_within (g.L.Ledger.counts a.ledger) a.sheet.now.horizon (a.start * yearly) _ _ a.words.now h.room (omega (arith, from)) (rw from (omega arith));
@@ -28,21 +31,22 @@ add_arc-requires g c =
 pub returns-clause-paid : goal.returns-clause-paid
 returns-clause-paid g c =
     let a = c.args in
-    arc_read a.sheet.now a.option a.start a.end c.requires.option_bound.0 c.kept_of-kept.result c.kept_of-kept.ensures c.pays_removal-removed.result
-    c.pays_removal-removed.ensures a.words.now c.add_arc.new.words (g.L.Ledger.figure a.ledger) c.add_arc.ensures
+    arc_read a.sheet.now (place a.activity) a.start a.end (omega (arith, place_lt a.activity)) c.kept_of-kept.result c.kept_of-kept.ensures c.pays_removal-removed.result
+    (rw c.from.ensures at c.pays_removal-removed.ensures) a.words.now c.add_arc.new.words (g.L.Ledger.figure a.ledger) c.add_arc.ensures
 
 pub returns-clause-room : goal.returns-clause-room
 returns-clause-room g c =
     let a = c.args in
     let h = c.requires.list_asks in
-    let o = c.requires.option_bound in
-    let forward = o.1 in
-    let inside = o.2 in
+    let o = c.requires.in_order in
+    let known : place a.activity ≤ 2 = omega (arith, place_lt a.activity) in
+    let forward = o.0 in
+    let inside = o.1 in
     let made = c.kept_of-kept.ensures in
     let kept = c.kept_of-kept.result in
     let φ = g.L.Ledger.figure a.ledger in
-    let fits = subst KeptFits (sym made) (kept_of_fits a.sheet.now h.fit a.option a.start o.0 (omega arith)) in
+    let fits = subst KeptFits (sym made) (kept_of_fits a.sheet.now h.fit (place a.activity) a.start known (omega arith)) in
     let suits = subst (g.L.Ledger.ready a.ledger) (sym (ap (λ (k : Kept). k.discount) made)) h.suits in
     let small = ledger_small (g.L.Ledger.ready a.ledger) kept fits suits φ (g.met.L.Ledger.small a.ledger) (a.end - a.start) (omega (arith, h.fit.horizon_high)) in
-    arc-room a.sheet.now a.option a.start a.end o.0 kept made c.pays_removal-removed.result c.pays_removal-removed.ensures a.words.now c.add_arc.new.words
-    φ c.add_arc.ensures h.fit o.1 o.2 small (g.L.Ledger.counts a.ledger) h.room c.add_arc.auto.words
+    arc-room a.sheet.now (place a.activity) a.start a.end known kept made c.pays_removal-removed.result (rw c.from.ensures at c.pays_removal-removed.ensures) a.words.now c.add_arc.new.words
+    φ c.add_arc.ensures h.fit o.0 o.1 small (g.L.Ledger.counts a.ledger) h.room c.add_arc.auto.words

@@ -8,7 +8,7 @@ pub add_activity-requires : goal.add_activity-requires
 add_activity-requires g c =
     let o = ordered_read c.args.plan.now c.u16_at-i.ensures.0 c.u16_at-j.ensures.0 c.u16_at-count.ensures.0 c.args.sheet.now.horizon c.requires.1.ordered in
     let up = o.0 in
-    record { list_asks = c.requires.0; option_bound = (omega arith, omega arith, omega (arith, o.1.early)) }
+    record { list_asks = c.requires.0; in_order = (omega arith, omega (arith, o.1.early)) }
 
 pub add_activity-requires-2 : goal.add_activity-requires-2
 add_activity-requires-2 g c =
@@ -16,7 +16,7 @@ add_activity-requires-2 g c =
     let o = ordered_read c.args.plan.now c.u16_at-i.ensures.0 c.u16_at-j.ensures.0 c.u16_at-count.ensures.0 c.args.sheet.now.horizon c.requires.1.ordered in
     record {
       list_asks = record { fit = h.fit; suits = h.suits; room = c.add_activity.ensures.room };
-      option_bound = (omega arith, o.0, o.1.early);
+      in_order = (o.0, o.1.early);
     }
 
 pub add_replacements-requires : goal.add_replacements-requires

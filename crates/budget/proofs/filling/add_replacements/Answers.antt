@@ -20,13 +20,13 @@ add_activity-requires-clause-list_asks g c =
     let h = c.requires.list_asks.0 in
     record { fit = h.fit; suits = h.suits; room = c.loop-k.invariant.room }
 
-pub add_activity-requires-clause-option_bound : goal.add_activity-requires-clause-option_bound
-add_activity-requires-clause-option_bound g c =
+pub add_activity-requires-clause-in_order : goal.add_activity-requires-clause-in_order
+add_activity-requires-clause-in_order g c =
     let a = c.args in
     let l = c.loop-k in
     let n = climbs_more a.plan.now a.count l.k c.loop-k-test.true c.u16_at-end.ensures.0 a.sheet.now.horizon l.year l.invariant.climbs in
     let up = n.0 in
-    (omega arith, omega arith, n.1.early)
+    (omega arith, n.1.early)
 
 pub loop-k-preserved : goal.loop-k-preserved
 loop-k-preserved g c =

@@ -7,12 +7,12 @@ pub arc_cost-maintained-requires : goal.arc_cost-maintained-requires
 arc_cost-maintained-requires c =
     let years = ordered_read _ c.i_of-i.ensures.0 c.j_of-j.ensures.0 c.count_of-count.ensures.0 _ c.requires.ordered in
     let early = years.1.early in
-    (c.requires.fit.0, omega arith, omega arith, omega (arith, years.0))
+    (c.requires.fit.0, omega arith, omega (arith, years.0))
 
 pub arc_cost-renovated-requires : goal.arc_cost-renovated-requires
 arc_cost-renovated-requires c =
     let years = ordered_read _ c.i_of-i.ensures.0 c.j_of-j.ensures.0 c.count_of-count.ensures.0 _ c.requires.ordered in
-    (c.requires.fit.0, omega arith, years.0, years.1.early)
+    (c.requires.fit.0, years.0, years.1.early)
 
 pub replaced-replacements-requires-clause-climbs : goal.replaced-replacements-requires-clause-climbs
 replaced-replacements-requires-clause-climbs c =
