@@ -2,7 +2,6 @@
 
 ghost use Rattle.std.specs.Prelude.{◌≡◌, ◌+◌, ◌*◌, ◌<◌, ◌≤◌, eqb};
 ghost use Rattle.base.specs.Lists.{sum_of};
-ghost use Rattle.division.specs.Division.{DivisorReady};
 ghost use Rattle.steps.specs.Payment.{rounded, once};
 ghost use Rattle.steps.specs.Fit.{PlainFits};
 ghost use Rattle.costing.specs.Arc.{in_year, paid_if, paid, closes, closing, worth, whole_worth};
@@ -16,7 +15,7 @@ use steps::{Units, paid_once};
 
 // What an overhaul costs in year n of an arc, from 0: nothing unless n is its age.
 fn overhaul_at(age: u64, amount: u64, grow: u64, discount: Divisor, from: u64, n: u64) -> Units
-    requires plain_fits { PlainFits grow discount.by (amount * 10_000) × DivisorReady discount }
+    requires plain_fits { PlainFits grow discount.by (amount * 10_000) }
     requires from_bound { (from ≤ 300) × (n ≤ 300) }
     ensures { result.0 ≡ sum_of (rounded discount.by) (paid_if (eqb age n) (once amount grow (from + age))) }
 {

@@ -1,11 +1,11 @@
--- A quotient by a reciprocal. The reciprocal is made in two divisions: 2^83 - 1 is what it gives and what is left (`inverse_left`), so it
--- or the next number is within half a divisor (`ready_below`, `ready_above`). Such a reciprocal gives the quotient exactly
--- (`reciprocal_quotient`). Assumes nothing.
+-- A quotient by a reciprocal. The figures by which `Divisor::of` makes a reciprocal fit in 64 bits (`lower_lt`, `inverse_fits`). A divisor's
+-- reciprocal is within half a divisor (`ready`), and such a reciprocal gives the quotient exactly (`reciprocal_quotient`). Assumes nothing.
 use Prim.Native.Nat.{ℕ, ◌+◌, ◌-◌, ◌*◌, ◌/◌, ◌^◌, ◌≤◌, ◌<◌}
 use mathlib.Core.Path.{◌≡◌, refl, ap, ◌∙◌}
-use mathlib.Core.Logic.{⊎_elim}
+use mathlib.Core.Logic.{◌⊎◌, inl, inr, ⊎_elim}
 use native.Mathlib.Omega.{arith}
 use native.Mathlib.Nat.{add-zero, mul-le-mul, mul-le-mul_left, mul-le-mul_right, mul-lt-mul_of_pos_left, le_of_mul-le-mul_right, lt_of_mul-lt-mul_right, div-mul-le_self, lt-div-mul-add, div-lt_iff_lt-mul, div-eq_of_lt-le, div-div-eq-div-mul}
+use Rattle.std.proofs.lemmas.Bool.{cases_lt}
 use Rattle.division.specs.Division.{Above, Below, DivisorReady}
 use Rattle.division.specs.declared.Divisor.{Divisor}
 
@@ -45,9 +45,6 @@ module _ (by : ℕ) (large : 1_000_000 ≤ by) (small : by ≤ 1_200_000) where
   pub left_lt : left_of by < by
   left_lt = omega (arith, lt-div-mul-add {a = lower_of by} {b = by} (omega arith))
 
-  pub inverse_left : inverse_of by * by + left_of by + 1 ≡ 2 ^ 83
-  inverse_left = omega (arith, high_le, low_le)
-
   high_lt : high_of by < 2 ^ 32 - 1
   high_lt = omega (arith, high_le, mul-le-mul_left (high_of by) large)
 
@@ -56,14 +53,6 @@ module _ (by : ℕ) (large : 1_000_000 ≤ by) (small : by ≤ 1_200_000) where
 
   pub inverse_fits : inverse_of by + 1 < 2 ^ 64
   inverse_fits = omega (arith, high_lt, low_lt)
-
--- what is left, with 1, is at most half of the divisor, or more than half
-module _ (i by left : ℕ) (whole : i * by + left + 1 ≡ 2 ^ 83) where
-  pub ready_below : 2 * (left + 1) ≤ by → Below (record { by = by; inverse = i; more = 1 })
-  ready_below l = record { more = refl; high = omega arith; low = omega arith }
-
-  pub ready_above : left < by → by < 2 * (left + 1) → Above (record { by = by; inverse = i + 1; more = 0 })
-  ready_above l m = record { exact = refl; low = omega arith; high = omega arith }
 
 -- x / P is n / d where x d / P lies from n to below n + 1: with q = n / d, q d P ≤ n P ≤ x d < (n + 1) P ≤ (q + 1) d P
 quotient_between :
@@ -89,21 +78,33 @@ module _ (P d n i : ℕ) (positive : 0 < d) where
       let l : (n + 1) * (2 * P) ≤ (n + 1) * (2 * (i * d) + d) = mul-le-mul_left (n + 1) low in
       quotient_between P d n ((n + 1) * i) positive (omega arith) (omega arith)
 
-pub more_le : (d : Divisor) → DivisorReady d → d.more ≤ 1
-more_le d ready = ⊎_elim (λ (a : Above d). omega (arith, a.exact)) (λ (b : Below d). omega (arith, b.more)) ready.near
+module _ (d : Divisor) where
+  -- 2^83 fits once into the product, or not at all
+  pub near : Above d ⊎ Below d
+  near =
+      ⊎_elim
+      (λ (below : d.inverse * d.by < 2 ^ 83). inr (record { more = omega (arith, d.rounded); high = below; low = d.low }))
+      (λ (above : 2 ^ 83 ≤ d.inverse * d.by). inl (record { exact = omega (arith, d.rounded); low = above; high = d.high }))
+      (cases_lt (d.inverse * d.by) (2 ^ 83))
+
+  -- each divisor is ready to divide
+  pub ready : DivisorReady d
+  ready = record { positive = d.positive; small = d.small; near = near }
+
+pub more_le : (d : Divisor) → d.more ≤ 1
+more_le d = omega (arith, d.rounded)
 
 -- u is the upper half of the product with the reciprocal
 pub reciprocal_quotient :
-    (d : Divisor) → DivisorReady d → (n u : ℕ) → n ≤ 16_000_000_000_000_000_000 → u ≡ (n + d.more) * d.inverse / 2 ^ 64
-    → u / 2 ^ 19 ≡ n / d.by
-reciprocal_quotient d ready n u near half =
+    (d : Divisor) → (n u : ℕ) → n ≤ 16_000_000_000_000_000_000 → u ≡ (n + d.more) * d.inverse / 2 ^ 64 → u / 2 ^ 19 ≡ n / d.by
+reciprocal_quotient d n u near half =
     let most : n + 1 ≤ 16_000_000_000_000_000_001 = omega arith in
-    let far : (n + 1) * d.by ≤ 16_000_000_000_000_000_001 * 1_200_000 = mul-le-mul most ready.small in
+    let far : (n + 1) * d.by ≤ 16_000_000_000_000_000_001 * 1_200_000 = mul-le-mul most d.small in
     ap (λ (x : ℕ). x / 2 ^ 19) half
     ∙ div-div-eq-div-mul ((n + d.more) * d.inverse) (2 ^ 64) (2 ^ 19)
     ∙ ⊎_elim
     (λ (a : Above d).
-    rw (a.exact, add-zero n) (above_quotient (2 ^ 83) d.by n d.inverse ready.positive a.low a.high (omega arith)))
+    rw (a.exact, add-zero n) (above_quotient (2 ^ 83) d.by n d.inverse d.positive a.low a.high (omega arith)))
     (λ (b : Below d).
-    rw b.more (below_quotient (2 ^ 83) d.by n d.inverse ready.positive b.high b.low (omega arith)))
-    ready.near
+    rw b.more (below_quotient (2 ^ 83) d.by n d.inverse d.positive b.high b.low (omega arith)))
+    (ready d).near

@@ -3,8 +3,7 @@
 
 #![tactic(auto)]
 
-ghost use Rattle.std.specs.Prelude.{◌≡◌, ◌*◌, ◌/◌, ◌^◌, ◌≤◌};
-ghost use Rattle.division.specs.Division.{DivisorReady};
+ghost use Rattle.std.specs.Prelude.{◌≡◌, ◌+◌, ◌*◌, ◌/◌, ◌^◌, ◌<◌, ◌≤◌};
 
 // Powers of two: 32 + 51 and 64 + 19 are both 83.
 const TWO_19: u64 = 524_288;
@@ -13,12 +12,18 @@ const TWO_32: u64 = 4_294_967_296;
 
 const TWO_51: u64 = 2_251_799_813_685_248;
 
-// A divisor, and 2^83 over it to the nearest whole number. `more` is 1 where that lies below 2^83 over the divisor, else 0.
+// A divisor, and 2^83 over it to the nearest whole number. `more` is 1 where that lies below 2^83 over the divisor, else 0: the product of
+// the two holds 2^83 once or not at all.
 #[derive(Clone, Copy)]
 pub struct Divisor {
     pub by: u64,
     pub inverse: u64,
     pub more: u64,
+    pub ghost positive: { 0 < by },
+    pub ghost small: { by ≤ 1_200_000 },
+    pub ghost high: { 2 * (inverse * by) ≤ 2 * 2 ^ 83 + by },
+    pub ghost low: { 2 * 2 ^ 83 ≤ 2 * (inverse * by) + by },
+    pub ghost rounded: { more + inverse * by / 2 ^ 83 ≡ 1 },
 }
 
 // The upper half of the product of two numbers, by their halves. The compiler makes one multiplication of this form.
@@ -35,6 +40,8 @@ fn upper(x: u64, y: u64) -> u64
 }
 
 impl Divisor {
+    ghost use Rattle.division.specs.Division.{DivisorReady};
+
     // The divisor of a discount factor. 2^83 - 1 is divided in two steps; `left` is what it leaves.
     pub fn of(by: u64) -> Divisor
         requires { (1_000_000 ≤ by) × (by ≤ 1_200_000) }
@@ -63,7 +70,7 @@ impl Divisor {
 
     // n over the divisor.
     pub fn quotient(self, n: u64) -> u64
-        requires { DivisorReady self × (n ≤ 16_000_000_000_000_000_000) }
+        requires { n ≤ 16_000_000_000_000_000_000 }
         ensures { result ≡ n / self.by }
     {
         upper(n + self.more, self.inverse) / TWO_19

@@ -5,7 +5,6 @@
 #![tactic(auto)]
 
 ghost use Rattle.std.specs.Prelude.{◌≡◌, ◌<◌, ◌≤◌, ◌+◌, ◌*◌};
-ghost use Rattle.division.specs.Division.{DivisorReady};
 ghost use Rattle.steps.specs.Step.{divided, plain, in_service, repeated};
 ghost use Rattle.steps.specs.Payment.{rounded, once};
 ghost use Rattle.steps.specs.Fit.{PlainFits, ServiceFits};
@@ -26,7 +25,7 @@ pub fn up(n: u64, d: u64) -> u64
 
 // The same, by a divisor that is at hand.
 fn up_by(n: u64, d: Divisor) -> u64
-    requires { DivisorReady d × (n ≤ 15_000_000_000_000_000_000) }
+    requires { n ≤ 15_000_000_000_000_000_000 }
     ensures { result ≡ divided n d.by }
 {
     d.quotient(n + (d.by - 1))
@@ -35,7 +34,7 @@ fn up_by(n: u64, d: Divisor) -> u64
 impl Units {
     // One year forward.
     pub fn plain(self, grow: u64, discount: Divisor) -> Units
-        requires { PlainFits grow discount.by self.0 × DivisorReady discount }
+        requires { PlainFits grow discount.by self.0 }
         ensures { result.0 ≡ plain grow discount.by self.0 }
     {
         Units(up_by(self.0 * grow, discount))
@@ -43,7 +42,7 @@ impl Units {
 
     // One year forward in service: the ageing first.
     pub fn in_service(self, grow: u64, age: u64, discount: Divisor) -> Units
-        requires { ServiceFits grow age discount.by self.0 × DivisorReady discount }
+        requires { ServiceFits grow age discount.by self.0 }
         ensures { result.0 ≡ in_service grow age discount.by self.0 }
     {
         let aged = up(self.0 * age, 1_000_000);
@@ -52,7 +51,7 @@ impl Units {
 
     // That many years forward.
     pub fn plain_years(self, grow: u64, discount: Divisor, years: u64) -> Units
-        requires { PlainFits grow discount.by self.0 × DivisorReady discount }
+        requires { PlainFits grow discount.by self.0 }
         ensures { result.0 ≡ repeated years (plain grow discount.by) self.0 }
     {
         let mut now = self;
@@ -64,7 +63,7 @@ impl Units {
 
     // That many years forward in service.
     pub fn service_years(self, grow: u64, age: u64, discount: Divisor, years: u64) -> Units
-        requires { ServiceFits grow age discount.by (self.0 + years) × DivisorReady discount }
+        requires { ServiceFits grow age discount.by (self.0 + years) }
         ensures { result.0 ≡ repeated years (in_service grow age discount.by) self.0 }
     {
         let mut now = self;
@@ -77,7 +76,7 @@ impl Units {
 
 // The present value of an amount paid once, in a year.
 pub fn paid_once(amount: u64, grow: u64, discount: Divisor, year: u64) -> Units
-    requires { PlainFits grow discount.by (amount * 10_000) × DivisorReady discount }
+    requires { PlainFits grow discount.by (amount * 10_000) }
     ensures { result.0 ≡ rounded discount.by (once amount grow year) }
 {
     Units(amount * 10_000).plain_years(grow, discount, year)

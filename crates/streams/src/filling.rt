@@ -2,7 +2,6 @@
 
 ghost use Rattle.std.specs.Prelude.{ℕ, ◌+◌, ◌*◌, ◌<◌, ◌≤◌, length};
 ghost use Rattle.checking.specs.Fit.{OverhaulsFit};
-ghost use Rattle.division.specs.Division.{DivisorReady};
 ghost use Rattle.steps.specs.Fit.{PlainFits};
 ghost use Rattle.steps.specs.declared.Units.{Units};
 ghost use Rattle.costing.specs.Arc.{since_of};
@@ -28,7 +27,7 @@ fn stepped<F: Fn(Units) -> Units>(streams: &mut [u64], at: usize, first: Units, 
 
 // Writes the value of an amount in the years 0 to last, from a place on: each year is a plain step from the one before.
 pub fn stream(streams: &mut [u64], at: usize, amount: u64, grow: u64, discount: Divisor, last: u64)
-    requires plain_fits { PlainFits grow discount.by (amount * 10_000) × DivisorReady discount }
+    requires plain_fits { PlainFits grow discount.by (amount * 10_000) }
     requires last_bound { (last ≤ 300) × (at + last < length streams.old) }
     ensures { Filled at (once_in discount.by amount grow) last streams.old streams.new }
 {
@@ -62,7 +61,7 @@ pub fn electricity(streams: &mut [u64], option: u64, flow: Flow, discount: Divis
 
 // Writes the streams of the overhauls.
 pub fn overhauls(streams: &mut [u64], overhauls: Overhauls, discount: Divisor, last: u64)
-    requires divisor_ready { DivisorReady discount × (1_000_000 ≤ discount.by) × (discount.by ≤ 1_200_000) }
+    requires discount_low { 1_000_000 ≤ discount.by }
     requires overhauls_fit { OverhaulsFit discount.by overhauls }
     requires last_bound { (last ≤ 300) × (stream_places ≤ length streams.old) }
     ensures { OverhaulsFilled discount.by overhauls last streams.old streams.new }

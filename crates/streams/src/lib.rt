@@ -5,7 +5,6 @@
 
 ghost use Rattle.std.specs.Prelude.{◌≡◌, ◌+◌, ◌<◌, ◌≤◌, length};
 ghost use Rattle.checking.specs.Fit.{TermsFit};
-ghost use Rattle.division.specs.Division.{DivisorReady};
 ghost use Rattle.steps.specs.Payment.{rounded};
 ghost use Rattle.costing.specs.Arc.{since_of, electricity, worth};
 ghost use Rattle.costing.specs.Fit.{KeptFits};
@@ -35,7 +34,7 @@ pub struct Fallen {
 
 // Writes all streams of an option, for the years 0 to last.
 pub fn fill(streams: &mut [u64], terms: Terms, option: u64, discount: Divisor, last: u64)
-    requires divisor_ready { DivisorReady discount × (1_000_000 ≤ discount.by) × (discount.by ≤ 1_200_000) }
+    requires discount_low { 1_000_000 ≤ discount.by }
     requires terms_fit { TermsFit discount.by terms }
     requires last_bound { (last ≤ 300) × (stream_places ≤ length streams.old) }
     ensures paid { Streams discount.by terms last streams.new }

@@ -4,13 +4,13 @@ use Rattle.steps.specs.Step.{divided}
 use Rattle.steps.proofs.up_by.Goals as goal
 
 pub overflow_sub-d : goal.overflow_sub-d
-overflow_sub-d c = omega (arith, c.requires.0.positive)
+overflow_sub-d c = omega (arith, c.args.d.positive)
 
 pub overflow_add-n : goal.overflow_add-n
-overflow_add-n c = omega (arith, c.requires.0.small)
+overflow_add-n c = omega (arith, c.args.d.small)
 
 pub quotient-requires : goal.quotient-requires
-quotient-requires c = (c.requires.0, omega (arith, c.requires.0.small))
+quotient-requires c = omega (arith, c.args.d.small)
 
 pub returns : goal.returns
 unfolding divided

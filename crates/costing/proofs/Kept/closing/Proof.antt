@@ -32,7 +32,7 @@ paid-once-requires c κs =
     let h = s.requires.0.fits in
     let d = s.requires.0.divides in
     let w = s.args.self.terms.removal in
-    (rw d.number (amount_fits w.grow s.args.self.discount w.amount h.low h.high h.terms.removal.grow.high h.terms.removal.amount), d.ready)
+    rw d.number (amount_fits w.grow s.args.self.discount w.amount h.low h.high h.terms.removal.grow.high h.terms.removal.amount)
 
 returns-2 : tie.Need-returns-then-closes
 unfolding removal

@@ -35,7 +35,7 @@ overhaul-at-requires c κs =
     let d = s.requires.0.divides in
     let o = h.terms.overhauls in
     let fits = amount_fits _ _ _ h.low h.high o.grow.high (o.amount _ c.loop-j-test.true) in
-    ((rw d.number fits, d.ready), (h.from, s.requires.1))
+    (rw d.number fits, (h.from, s.requires.1))
 
 sum_next :
     (c : tie.After-overhaul_at-sum invariant-loop decreases-loop) →

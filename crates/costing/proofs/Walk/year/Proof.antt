@@ -20,21 +20,17 @@ in-service-requires : tie.Need-in_service-maintenance-requires
 in-service-requires c κs =
     let s = c.before.before.before.before in
     let h = s.requires.0.0.fits in
-    let d = s.requires.0.0.divides in (
-      rw (d.number, ap (λ (w : Walk). w.maintenance.0) s.requires.1.0 ∙ walk_at-maintenance _ _)
-          (in_year_fits _ _ _ _ _ h.low h.high h.terms.maintenance h.from (omega arith)),
-      d.ready,
-    )
+    let d = s.requires.0.0.divides in
+    rw (d.number, ap (λ (w : Walk). w.maintenance.0) s.requires.1.0 ∙ walk_at-maintenance _ _)
+    (in_year_fits _ _ _ _ _ h.low h.high h.terms.maintenance h.from (omega arith))
 
 in-service-requires-2 : tie.Need-in_service-electricity-requires
 in-service-requires-2 c κs =
     let s = c.before.before.before.before.before in
     let h = s.requires.0.0.fits in
-    let d = s.requires.0.0.divides in (
-      rw (d.number, ap (λ (w : Walk). w.electricity.0) s.requires.1.0 ∙ walk_at-electricity _ _)
-          (in_year_fits _ _ _ _ _ h.low h.high h.terms.electricity h.from (omega arith)),
-      d.ready,
-    )
+    let d = s.requires.0.0.divides in
+    rw (d.number, ap (λ (w : Walk). w.electricity.0) s.requires.1.0 ∙ walk_at-electricity _ _)
+    (in_year_fits _ _ _ _ _ h.low h.high h.terms.electricity h.from (omega arith))
 
 -- the whole sum
 room :

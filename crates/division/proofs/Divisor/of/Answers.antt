@@ -1,8 +1,7 @@
 -- 2^83 over a divisor to the nearest whole number, by two divisions. Assumes nothing.
 use mathlib.Core.Path.{refl}
-use mathlib.Core.Logic.{inl, inr}
 use native.Mathlib.Omega.{arith}
-use Rattle.division.proofs.ReciprocalLaws.{inverse_of, left_of, high_le, lower_lt, low_le, left_lt, inverse_left, inverse_fits, ready_below, ready_above}
+use Rattle.division.proofs.ReciprocalLaws.{high_le, lower_lt, low_le, left_lt, inverse_fits, ready}
 use Rattle.division.proofs.Divisor.of.Goals as goal
 
 pub overflow_mul-rest : goal.overflow_mul-rest
@@ -36,23 +35,10 @@ pub overflow_mul-left-2 : goal.overflow_mul-left-2
 overflow_mul-left-2 c = omega (arith, left_lt c.args.by (omega arith) (omega arith))
 
 pub returns-then-left-by : goal.returns-then-left-by
-returns-then-left-by c =
-    let by = c.args.by in
-    let whole = inverse_left by (omega arith) (omega arith) in
-    record {
-      number = refl;
-      ready = record { positive = omega arith; small = omega arith; near = inr (ready_below (inverse_of by) by (left_of by) whole (omega (arith, c.if-left-by.true))) };
-    }
+returns-then-left-by c = record { number = refl; ready = ready _ }
 
 pub overflow_add-result : goal.overflow_add-result
 overflow_add-result c = record { fits = inverse_fits c.args.by (omega arith) (omega arith) }
 
 pub returns : goal.returns
-returns c =
-    let by = c.args.by in
-    let whole = inverse_left by (omega arith) (omega arith) in
-    let under = left_lt by (omega arith) (omega arith) in
-    record {
-      number = refl;
-      ready = record { positive = omega arith; small = omega arith; near = inl (ready_above (inverse_of by) by (left_of by) whole under (omega (arith, c.if-left-by.false))) };
-    }
+returns c = record { number = refl; ready = ready _ }

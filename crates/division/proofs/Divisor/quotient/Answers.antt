@@ -4,8 +4,7 @@ use Rattle.division.proofs.ReciprocalLaws.{more_le, reciprocal_quotient}
 use Rattle.division.proofs.Divisor.quotient.Goals as goal
 
 pub returns : goal.returns
-returns c =
-    reciprocal_quotient c.args.self c.requires.0 c.args.n c.upper.result (omega (arith, c.requires.1)) c.upper.ensures
+returns c = reciprocal_quotient c.args.self c.args.n c.upper.result (omega (arith, c.requires)) c.upper.ensures
 
 pub overflow_add-n : goal.overflow_add-n
-overflow_add-n c = omega (arith, more_le c.args.self c.requires.0)
+overflow_add-n c = omega (arith, more_le c.args.self)

@@ -13,15 +13,13 @@ returns c =
     c.up_by.ensures ∙ ap (λ (aged : ℕ). divided (aged * a.grow) a.discount.by) c.up-aged.ensures
 
 pub overflow_mul-self : goal.overflow_mul-self
-overflow_mul-self c = omega (arith, age_room _ _ _ _ c.requires.0)
+overflow_mul-self c = omega (arith, age_room _ _ _ _ c.requires)
 
 pub up-aged-requires : goal.up-aged-requires
-up-aged-requires c = (omega arith, omega arith, omega (arith, age_room _ _ _ _ c.requires.0))
+up-aged-requires c = (omega arith, omega arith, omega (arith, age_room _ _ _ _ c.requires))
 
 pub overflow_mul-aged : goal.overflow_mul-aged
-overflow_mul-aged c = rw c.up-aged.ensures (omega (arith, aged_fits _ _ _ _ c.requires.0))
+overflow_mul-aged c = rw c.up-aged.ensures (omega (arith, aged_fits _ _ _ _ c.requires))
 
 pub up_by-requires : goal.up_by-requires
-up_by-requires c =
-    let s = c.requires in
-    rw c.up-aged.ensures (s.1, omega (arith, aged_fits _ _ _ _ s.0))
+up_by-requires c = rw c.up-aged.ensures (omega (arith, aged_fits _ _ _ _ c.requires))

@@ -5,12 +5,10 @@ use Rattle.steps.proofs.RoomLaws.{plain-room}
 use Rattle.steps.proofs.Units.plain.Goals as goal
 
 pub overflow_mul-self : goal.overflow_mul-self
-overflow_mul-self c = omega (arith, plain-room _ _ _ c.requires.0)
+overflow_mul-self c = omega (arith, plain-room _ _ _ c.requires)
 
 pub up_by-requires : goal.up_by-requires
-up_by-requires c =
-    let s = c.requires in
-    (s.1, omega (arith, plain-room _ _ _ s.0))
+up_by-requires c = omega (arith, plain-room _ _ _ c.requires)
 
 pub returns : goal.returns
 unfolding plain

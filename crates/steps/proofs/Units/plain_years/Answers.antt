@@ -11,9 +11,7 @@ unfolding repeated
 loop-k-init c = (omega arith, refl)
 
 pub plain-now-requires : goal.plain-now-requires
-plain-now-requires c =
-    let s = c.requires in
-    (rw c.loop-k.invariant.1 (plains_fit _ _ _ _ s.0), s.1)
+plain-now-requires c = rw c.loop-k.invariant.1 (plains_fit _ _ _ _ c.requires)
 
 pub loop-k-preserved : goal.loop-k-preserved
 unfolding repeated

@@ -11,9 +11,7 @@ unfolding repeated
 loop-k-init c = (omega arith, refl)
 
 pub in_service-now-requires : goal.in_service-now-requires
-in_service-now-requires c =
-    let s = c.requires in
-    (rw c.loop-k.invariant.1 (services_fit _ _ _ _ _ _ s.0 c.loop-k.invariant.0), s.1)
+in_service-now-requires c = rw c.loop-k.invariant.1 (services_fit _ _ _ _ _ _ c.requires c.loop-k.invariant.0)
 
 pub loop-k-preserved : goal.loop-k-preserved
 unfolding repeated

@@ -12,7 +12,7 @@ stepped-requires-clause-steps c y v l r =
     let grow = c.args.grow in
     let now =
     reached_figure _ _ (once_in d amount grow) (once-zero d amount grow) (λ y u v now step. once-suc d amount grow y now (search rules)) y v r in
-    let fits : PlainFits grow d v.0 = once_fits d amount grow y now c.requires.plain_fits.0 in
+    let fits : PlainFits grow d v.0 = once_fits d amount grow y now c.requires.plain_fits in
     search rules
 
 pub returns : goal.returns

@@ -10,7 +10,7 @@ in_service-requires c =
     let h = c.requires in
     let old = h.old in
     let early = h.early in
-    (rw h.stands (units-fit c.args.self _ h.payable (omega arith)), h.payable.suits.ready)
+    rw h.stands (units-fit c.args.self _ h.payable (omega arith))
 
 pub returns : goal.returns
 returns c s y old counted stands = units-next c.args.self c.args.flow s y old stands c.in_service.ensures

@@ -8,4 +8,4 @@ unfolding once
 paid_once-requires c =
     let h = c.requires.0 in
     let n = h.suits.number in
-    (rw n (amount_fits c.args.grow h.discount c.args.amount h.low h.high h.rates.grown h.amount), h.suits.ready)
+    rw n (amount_fits c.args.grow h.discount c.args.amount h.low h.high h.rates.grown h.amount)
