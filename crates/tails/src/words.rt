@@ -22,6 +22,7 @@ fn put(words: &mut [u64], firsts: &mut [u64], year: u64, best: Best)
     firsts[year as usize] = best.end;
 }
 
+// The lists that are written are lent one by one: with a struct of `&mut` each method would have to say that it keeps the references.
 impl Lent<'_> {
     // Writes those of a year by the choice of a replacement from it, and the total behind the ends of that year.
     fn settle(
