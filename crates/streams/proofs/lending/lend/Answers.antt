@@ -17,6 +17,6 @@ returns c =
     let terms = get_or c.args.sheet.options (place c.args.activity) no_terms in
     let number = c.requires.fit.1.number in (
       subst (λ (d : ℕ). Streams d terms c.args.sheet.horizon c.fill.new.streams) number filled.paid,
-      refl,
+      rw c.place.ensures refl,
       power_same terms.electricity c.args.sheet.horizon c.fill.new.streams number (omega arith) filled.power,
     )
