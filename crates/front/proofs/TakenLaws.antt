@@ -1,6 +1,7 @@
 -- Where a choice has a total, it has taken an offered end and the entry behind it (`best_taken`): so the chosen replacements from a year go
 -- on from their first end (`tail_next`), and the planned chain begins with maintaining, renovating and the replacements from there
--- (`planned-front`, `planned_begins`), and i has a place (`planned_inside`). Assumes nothing.
+-- (`planned-front`, `planned_begins`), and i has a place (`planned_inside`).
+-- Where it has no total there is no front (`front_none`, `none_left`), else its own (`front_some`, `some_found`). Assumes nothing.
 use Prim.Native.Nat.{ℕ, suc, ◌-◌, ◌≤◌, ◌<◌}
 use mathlib.Core.Path.{◌≡◌, refl, ap, sym, subst, ◌∙◌}
 use mathlib.Core.Bool.{true}
@@ -8,7 +9,11 @@ use mathlib.Core.List.{List, [], ◌∷◌}
 use mathlib.Core.Logic.{⊎_elim}
 use native.Mathlib.Omega.{arith}
 use lib.ListN.{get_or}
+use lib.Dec.{eqb}
+use borrow.Author.Tests.{eqb-true, eqb-false, eq-eqb, ne_eqb}
+use Rattle.std.specs.Prelude.{Some, None}
 use Rattle.base.specs.Lists.{first_of}
+use Rattle.base.proofs.TestLaws.{by_test}
 use Rattle.sheet.specs.Sheet.{PlanningSheet, maintain, renovate, replace}
 use Rattle.sheet.specs.Parsed.{parsed}
 use Rattle.sheet.specs.declared.Sheet.{Sheet}
@@ -25,7 +30,7 @@ use Rattle.weighing.specs.declared.Best.{Best}
 use Rattle.tails.specs.Tail.{best_end, tail_from}
 use Rattle.tails.proofs.TailLaws.{tail_step}
 use Rattle.front.specs.Planned.{renovated, planned}
-use Rattle.front.specs.Front.{front}
+use Rattle.front.specs.Front.{front, front_of}
 use Rattle.front.specs.declared.Front.{Front}
 
 -- the end that a choice has taken: it is offered, there is an entry behind it, and the list goes on as that entry does
@@ -116,3 +121,23 @@ planned_inside s some best read there =
     let p = some.sheet in
     let o = (offered-iff p maintain 0 best.end).0 (planned-front p best (read p some.read) there).0 in
     omega (arith, o.inside, horizon_read s p some.read, some.fit.horizon_high)
+
+-- where there is no total, there is no front, and else it is that of the entry
+module _ (t : Entry) where
+  pub front_none : t.total ≡ no_total → None ≡ front_of t
+  front_none none = rw (eq-eqb t.total no_total none)
+
+  pub front_some : (t.total ≡ no_total → ⊥) → Some (front t) ≡ front_of t
+  front_some there = rw (ne_eqb t.total no_total there)
+
+  pub none_left : None ≡ front_of t → t.total ≡ no_total
+  none_left none = by_test (eqb t.total no_total) (eqb-true t.total no_total) (λ off. let some = none ∙ sym (front_some (eqb-false t.total no_total off)) in cc)
+
+  pub some_found : (f : Front) → Some f ≡ front_of t → (f ≡ front t) × (f.total ≡ no_total → ⊥)
+  some_found f some =
+      by_test (eqb t.total no_total) (λ on. let none = some ∙ sym (front_none (eqb-true t.total no_total on)) in absurd (cc))
+      (λ off.
+      let there = eqb-false t.total no_total off in
+      let both = some ∙ sym (front_some there) in
+      let same : f ≡ front t = cc in
+      (same, λ q. there (ap (λ (f : Front). f.total) (sym same) ∙ q)))

@@ -1,5 +1,5 @@
 -- What the code keeps on the way to a chain. Definitions only.
-use Rattle.std.specs.Prelude.{ℕ, ◌+◌, ◌≤◌, ◌<◌, ◌≡◌, true, List, length, get_or, take, ◌⊎◌}
+use Rattle.std.specs.Prelude.{ℕ, ◌+◌, ◌≤◌, ◌<◌, ◌≡◌, true, cond, eqb, Option, Some, None, List, length, get_or, take, ◌⊎◌}
 use Rattle.base.specs.Lists.{first_of}
 use Rattle.base.specs.Tally.{sum_over}
 use Rattle.sheet.specs.Layout.{year_places}
@@ -21,6 +21,10 @@ use Rattle.front.specs.declared.Front.{Front}
 -- total, i and j of the planned chain
 abbrev pub front : Entry → Front
 front t = record { total = t.total; i = get_or t.ends 0 0; j = get_or t.ends 1 0 }
+
+-- and where there is no chain, none
+abbrev pub front_of : Entry → Option Front
+front_of t = cond (eqb t.total no_total) None (Some (front t))
 
 -- a list that has a figure of the sheet at each year of a domain, and a place for every year up to 300
 pub record Held (figure : PlanningSheet → ℕ → ℕ) (Domain : PlanningSheet → ℕ → Type 0) (s : Sheet) (l : List ℕ) : Type 0 where

@@ -9,7 +9,7 @@ ghost use Rattle.sheet.specs.Parsed.{parsed};
 ghost use Rattle.checking.specs.Fit.{SheetFits};
 ghost use Rattle.steps.specs.Fit.{Divides};
 ghost use Rattle.front.specs.Planned.{planned};
-ghost use Rattle.front.specs.Front.{front, TailsLent, FirstsHeld, Leads, Follows};
+ghost use Rattle.front.specs.Front.{front_of, TailsLent, FirstsHeld, Leads, Follows};
 
 use division::Divisor;
 use sheet::{Sheet, YEARS};
@@ -26,11 +26,11 @@ pub struct Front {
     pub j: u64,
 }
 
-// The total of the chosen chain, and how it begins; no total where there is no chain.
-pub fn best_front(words: &[u64], sheet: Sheet, discount: Divisor) -> Front
+// The total of the chosen chain, and how it begins; none where there is no chain.
+pub fn best_front(words: &[u64], sheet: Sheet, discount: Divisor) -> Option<Front>
     requires sheet_fits { SheetFits sheet × Divides discount sheet.discount }
     requires tails_lent { TailsLent sheet words.now }
-    ensures { (p : PlanningSheet) → sheet ≡ parsed p → result ≡ front (planned p) }
+    ensures { (p : PlanningSheet) → sheet ≡ parsed p → result ≡ front_of (planned p) }
 {
     // Two lists, and none of `Best`: the choice of maintaining reads the totals as words.
     let mut totals = [weighing::NONE; YEARS];
@@ -40,18 +40,10 @@ pub fn best_front(words: &[u64], sheet: Sheet, discount: Divisor) -> Front
     let total = best.total;
     let i = best.end;
     if total == weighing::NONE {
-        return Front {
-            total: total,
-            i: 0,
-            j: 0,
-        };
+        return None;
     }
     let j = ends[i as usize];
-    Front {
-        total: total,
-        i: i,
-        j: j,
-    }
+    Some(Front { total, i, j })
 }
 
 // Writes the ends of the chosen replacements from year j on, one after the other, and answers how many there are. `firsts` has the end of

@@ -10,8 +10,8 @@ ghost use Rattle.planning.specs.Planning.{planning, plan_written};
 
 use base::Refusal;
 use division::Divisor;
+use front::Front;
 use sheet::Sheet;
-use weighing;
 
 // Finds the chosen chain by the words and the first ends, and writes its plan where there is one and the buffer is long enough for it.
 pub fn write_chosen(
@@ -26,16 +26,14 @@ pub fn write_chosen(
 {
     let discount = Divisor::of(sheet.discount);
     let chosen = front::best_front(words, sheet, discount);
-    let total = chosen.total;
-    let j = chosen.j;
-    if total == weighing::NONE {
+    let Some(Front { total, i, j }) = chosen else {
         return Err(Refusal::NoChain);
-    }
+    };
     let mut ends = [0u64; 300];
     let count = front::ends_from(&mut ends, firsts, sheet, j);
     if plan.len() < 19 + 2 * count {
         return Err(Refusal::PlanLength);
     }
-    chain::writing::write_plan(plan, total, chosen.i, j, &ends[..count]);
-    Ok(total)
+    chain::writing::write_plan(plan, total, i, j, &ends[..count]);
+    base::accepted(total)
 }

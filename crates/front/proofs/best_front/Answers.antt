@@ -1,16 +1,13 @@
 -- Maintaining is chosen by the totals of renovating; j is the end of renovating from its end i. Assumes nothing.
-use Prim.Native.Nat.{ℕ}
-use mathlib.Core.Path.{◌≡◌, ap, sym, subst, ◌∙◌}
+use mathlib.Core.Path.{ap, sym, ◌∙◌}
 use native.Mathlib.Omega.{arith}
 use lib.ListN.{get_or-replicate}
 use Rattle.sheet.specs.Layout.{year_places}
-use Rattle.checking.specs.Fit.{Fit}
 use Rattle.choice.specs.Running.{no_total}
 use Rattle.weighing.specs.declared.Best.{Best}
 use Rattle.front.specs.Planned.{planned}
-use Rattle.front.specs.Front.{front}
-use Rattle.front.proofs.PlannedLaws.{planned-no_entry}
-use Rattle.front.proofs.TakenLaws.{planned-front, planned_inside}
+use Rattle.front.proofs.TakenLaws.{planned-front, planned_inside, front_none, front_some}
+use Rattle.std.specs.Prelude.{Some}
 use Rattle.front.proofs.best_front.Goals as goal
 
 pub renovations-requires-clause-no_totals : goal.renovations-requires-clause-no_totals
@@ -18,10 +15,7 @@ renovations-requires-clause-no_totals c = (λ y l. get_or-replicate year_places 
 
 -- no chain
 pub returns-then-total : goal.returns-then-total
-returns-then-total c p read =
-    let total = ap (λ (b : Best). b.total) (c.best_maintain-best.ensures p read) in
-    let none = planned-no_entry p (subst Fit read c.requires.sheet_fits.0.fit) (sym total ∙ c.if-total.true) in
-    subst (λ (n : ℕ). record { total = n; i = 0; j = 0 } ≡ front (planned p)) (sym c.if-total.true) (sym (ap front none))
+returns-then-total c p read = front_none (planned p) (sym (ap (λ (b : Best). b.total) (c.best_maintain-best.ensures p read)) ∙ c.if-total.true)
 
 pub offset_bounds-ends-i : goal.offset_bounds-ends-i
 offset_bounds-ends-i c =
@@ -35,6 +29,8 @@ bounds-ends-i c =
 
 pub returns : goal.returns
 returns c p read =
-    let best = c.best_maintain-best.result in
-    let front = planned-front p best (c.best_maintain-best.ensures p read) c.if-total.false in
-    front.1 _ (c.renovations.ensures.2.held p read best.end front.0)
+    let best = c.best_maintain-best in
+    let total = ap (λ (b : Best). b.total) (best.ensures p read) in
+    let front = planned-front p best.result (best.ensures p read) c.if-total.false in
+    ap Some (front.1 _ (c.renovations.ensures.2.held p read best.result.end front.0))
+    ∙ front_some (planned p) (λ q. c.if-total.false (total ∙ q))
