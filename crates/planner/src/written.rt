@@ -35,5 +35,5 @@ pub fn write_chosen(
         return Err(Refusal::PlanLength);
     }
     chain::writing::write_plan(plan, total, i, j, &ends[..count]);
-    base::accepted(total)
+    Ok(total)
 }
