@@ -64,5 +64,9 @@ pub fn years(rt: &impl Print, units: &[u64], cents: &[u64], count: usize) -> io:
 
 // The words behind the last year of either list.
 pub fn behind(rt: &impl Print, units: &[u64], cents: &[u64]) -> io::Result<()> {
-    println!(rt; "words behind: units {}, cents {}", state(units), state(cents))
+    println!(rt;
+        "words behind: units {}, cents {}",
+        state(units),
+        state(cents)
+    )
 }

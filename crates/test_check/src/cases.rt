@@ -40,7 +40,10 @@ fn version(rt: &impl Print, version: u8, length: usize) -> io::Result<()>
 {
     let mark = Bytes([0; 303]).put(0, b"RCS");
     let sheet = mark.put8(3, version).put8(5, 1).0;
-    println!(rt; "version {version}, {length} bytes: {}", check(&sheet[..length]))
+    println!(rt;
+        "version {version}, {length} bytes: {}",
+        check(&sheet[..length])
+    )
 }
 
 fn lengths_of(rt: &impl Print, number: u8) -> io::Result<()> {
@@ -188,7 +191,11 @@ pub fn entries(rt: &impl Print, at: usize) -> io::Result<()>
     answer(rt, "age 119", &last.0)?;
     answer(rt, "age 120", &one.put16(at + 41, 120).0)?;
     answer(rt, "overhaul 10^9", &last.put32(at + 43, 1_000_000_000).0)?;
-    answer(rt, "overhaul 10^9 + 1", &last.put32(at + 43, 1_000_000_001).0)
+    answer(
+        rt,
+        "overhaul 10^9 + 1",
+        &last.put32(at + 43, 1_000_000_001).0,
+    )
 }
 
 // All eight entries used, of ages 1 to 8.

@@ -19,11 +19,23 @@ fn limits(rt: &impl Print, sheet: LongSheet, at: usize) -> io::Result<()>
     requires { at ≤ 205 }
 {
     answer(rt, "removal 10^9", &sheet.put32(at + 89, 1_000_000_000).0)?;
-    answer(rt, "removal 10^9 + 1", &sheet.put32(at + 89, 1_000_000_001).0)?;
+    answer(
+        rt,
+        "removal 10^9 + 1",
+        &sheet.put32(at + 89, 1_000_000_001).0,
+    )?;
     answer(rt, "removal f 40,000", &sheet.put_i32(at + 93, 40_000).0)?;
     answer(rt, "removal f 40,001", &sheet.put_i32(at + 93, 40_001).0)?;
-    answer(rt, "removal f -100,000", &sheet.put_i32(at + 93, -100_000).0)?;
-    answer(rt, "removal f -100,001", &sheet.put_i32(at + 93, -100_001).0)
+    answer(
+        rt,
+        "removal f -100,000",
+        &sheet.put_i32(at + 93, -100_000).0,
+    )?;
+    answer(
+        rt,
+        "removal f -100,001",
+        &sheet.put_i32(at + 93, -100_001).0,
+    )
 }
 
 // Of an option that is not offered, and of one that is.

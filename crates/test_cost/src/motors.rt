@@ -6,11 +6,15 @@ use test_sheets::{RENOVATE_AT, ShortSheet, plain};
 
 fn sheet() -> ShortSheet {
     let renovating = plain().put16(5, 3).lives(RENOVATE_AT, 1, 2);
-    renovating.put32(RENOVATE_AT + 24, 1).put32(RENOVATE_AT + 32, 20_000)
+    renovating
+        .put32(RENOVATE_AT + 24, 1)
+        .put32(RENOVATE_AT + 32, 20_000)
 }
 
 fn maintained() -> ShortSheet {
-    sheet().put32(RENOVATE_AT + 12, 1).put32(RENOVATE_AT + 20, 20_000)
+    sheet()
+        .put32(RENOVATE_AT + 12, 1)
+        .put32(RENOVATE_AT + 20, 20_000)
 }
 
 const ALONE: [Case; 3] = [

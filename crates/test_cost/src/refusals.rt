@@ -7,7 +7,11 @@ use test_sheets::{REPLACE_AT, plain};
 
 const TOP: u64 = u64::MAX;
 
-const OPTIONS: [Case; 3] = [("option", 3, 0, 1), ("option", 256, 0, 1), ("option", TOP, 0, 1)];
+const OPTIONS: [Case; 3] = [
+    ("option", 3, 0, 1),
+    ("option", 256, 0, 1),
+    ("option", TOP, 0, 1),
+];
 
 const YEARS: [Case; 6] = [
     ("last year", 2, 240, 300),

@@ -16,5 +16,9 @@ fn overhauled() -> ShortSheet {
 
 pub fn cases(rt: &impl Print) -> io::Result<()> {
     answer(rt, &sheet().0, ("case 6", 2, 1, 3))?;
-    answers(rt, &overhauled().0, &[("case 7", 2, 1, 3), ("case 8", 2, 1, 2)])
+    answers(
+        rt,
+        &overhauled().0,
+        &[("case 7", 2, 1, 3), ("case 8", 2, 1, 2)],
+    )
 }

@@ -19,5 +19,11 @@ pub fn lengths(rt: &impl Print) -> io::Result<()> {
     let mut words = [0; 301];
     in_buffers(rt, "case 12, 22 bytes", &sheet, &mut short, &mut words)?;
     in_buffers(rt, "case 12, 300 words", &sheet, &mut plan, &mut few)?;
-    in_buffers(rt, "case 12, 23 bytes and 301 words", &sheet, &mut plan, &mut words)
+    in_buffers(
+        rt,
+        "case 12, 23 bytes and 301 words",
+        &sheet,
+        &mut plan,
+        &mut words,
+    )
 }

@@ -22,5 +22,9 @@ pub fn replacements(rt: &impl Print) -> io::Result<()> {
 
 // Maintaining for 15 years and renovating for 30 ends in year 45, of 300.
 pub fn none(rt: &impl Print) -> io::Result<()> {
-    amply(rt, "paper, replace not offered", &sheet().lives(REPLACE_AT, 0, 0).0)
+    amply(
+        rt,
+        "paper, replace not offered",
+        &sheet().lives(REPLACE_AT, 0, 0).0,
+    )
 }

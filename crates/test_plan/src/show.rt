@@ -26,5 +26,8 @@ pub fn year(rt: &impl Print, words: &[u64; 302], y: usize) -> io::Result<()>
 
 // For T = 3, the first word behind those of years 0 to T, the last that planning wants, and the one behind it.
 pub fn kept(rt: &impl Print, words: &[u64; 302]) -> io::Result<()> {
-    println!(rt; "words 4, 300 and 301: {} {} {}", words[4], words[300], words[301])
+    println!(rt;
+        "words 4, 300 and 301: {} {} {}",
+        words[4], words[300], words[301]
+    )
 }

@@ -18,9 +18,24 @@ fn postponing(rt: &impl Print, s: &[u8]) -> io::Result<()> {
     let maintained = Plan::of(1, 1, &[60, 120, 180, 240, 300]);
     let renovated = Plan::of(0, 1, &[60, 120, 180, 240, 300]);
     let classic = Plan::of(5, 35, &[95, 155, 215, 275, 300]);
-    answer(rt, "maintain 1, replace 60 120 180 240 300", s, maintained.bytes())?;
-    answer(rt, "renovate 1, replace 60 120 180 240 300", s, renovated.bytes())?;
-    answer(rt, "maintain 5, renovate 35, replace 95 155 215 275 300", s, classic.bytes())
+    answer(
+        rt,
+        "maintain 1, replace 60 120 180 240 300",
+        s,
+        maintained.bytes(),
+    )?;
+    answer(
+        rt,
+        "renovate 1, replace 60 120 180 240 300",
+        s,
+        renovated.bytes(),
+    )?;
+    answer(
+        rt,
+        "maintain 5, renovate 35, replace 95 155 215 275 300",
+        s,
+        classic.bytes(),
+    )
 }
 
 pub fn priced(rt: &impl Print) -> io::Result<()> {

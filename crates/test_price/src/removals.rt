@@ -22,9 +22,24 @@ fn alone(rt: &impl Print) -> io::Result<()> {
     let every = Plan::of(1, 2, &[3, 4]);
     let skipped = Plan::of(1, 1, &[2, 3, 4]);
     let kept = Plan::of(2, 4, &[]);
-    answer(rt, "removals alone, maintain 1, renovate 2, replace 3 4", &s, every.bytes())?;
-    answer(rt, "removals alone, maintain 1, replace 2 3 4", &s, skipped.bytes())?;
-    answer(rt, "removals alone, maintain 2, renovate 4", &s, kept.bytes())
+    answer(
+        rt,
+        "removals alone, maintain 1, renovate 2, replace 3 4",
+        &s,
+        every.bytes(),
+    )?;
+    answer(
+        rt,
+        "removals alone, maintain 1, replace 2 3 4",
+        &s,
+        skipped.bytes(),
+    )?;
+    answer(
+        rt,
+        "removals alone, maintain 2, renovate 4",
+        &s,
+        kept.bytes(),
+    )
 }
 
 fn overhauled(rt: &impl Print) -> io::Result<()> {
@@ -34,7 +49,12 @@ fn overhauled(rt: &impl Print) -> io::Result<()> {
     let once = Plan::of(0, 0, &[2]);
     answer(rt, "overhauled, replace 1 2", &without, twice.bytes())?;
     answer(rt, "overhauled, replace 2", &without, once.bytes())?;
-    answer(rt, "overhauled, removal 6, replace 1 2", &with, twice.bytes())?;
+    answer(
+        rt,
+        "overhauled, removal 6, replace 1 2",
+        &with,
+        twice.bytes(),
+    )?;
     answer(rt, "overhauled, removal 6, replace 2", &with, once.bytes())
 }
 
@@ -42,8 +62,18 @@ fn case_study(rt: &impl Print) -> io::Result<()> {
     let s = removals::case_study().0;
     let least = Plan::of(0, 0, &[60, 120, 180, 240, 300]);
     let classic = Plan::of(5, 35, &[95, 155, 215, 275, 300]);
-    answer(rt, "paper removed, replace 60 120 180 240 300", &s, least.bytes())?;
-    answer(rt, "paper removed, maintain 5, renovate 35, replace 95 155 215 275 300", &s, classic.bytes())
+    answer(
+        rt,
+        "paper removed, replace 60 120 180 240 300",
+        &s,
+        least.bytes(),
+    )?;
+    answer(
+        rt,
+        "paper removed, maintain 5, renovate 35, replace 95 155 215 275 300",
+        &s,
+        classic.bytes(),
+    )
 }
 
 pub fn all(rt: &impl Print) -> io::Result<()> {
