@@ -135,7 +135,7 @@ impl Answer {
         ensures { result ≡ accepted total }
     {
         Answer {
-            total: total,
+            total,
             number: 0,
             option: 3,
         }

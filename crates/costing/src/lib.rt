@@ -72,9 +72,9 @@ fn kept_on(terms: Terms, discount: u64, since: u64, start: u64) -> Kept
     ensures { result ≡ kept_on terms discount since start }
 {
     Kept {
-        terms: terms,
-        discount: discount,
-        since: since,
+        terms,
+        discount,
+        since,
         from: start,
     }
 }

@@ -56,13 +56,13 @@ impl Divisor {
         let inverse = high * TWO_32 + low;
         if 2 * (left + 1) <= by {
             return Divisor {
-                by: by,
-                inverse: inverse,
+                by,
+                inverse,
                 more: 1,
             };
         }
         Divisor {
-            by: by,
+            by,
             inverse: inverse + 1,
             more: 0,
         }

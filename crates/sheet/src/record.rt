@@ -74,8 +74,8 @@ fn overhauls_at(s: &[u8], at: usize) -> Overhauls
     Overhauls {
         grow: fields::factor_at(s, at + 36),
         count: numbers::u8_at(s, at + 40),
-        ages: ages,
-        amounts: amounts,
+        ages,
+        amounts,
     }
 }
 
@@ -107,7 +107,7 @@ pub fn terms_at(s: &[u8], at: usize, long: bool) -> Terms
         investment: once_at(s, at + 4),
         maintenance: flow_at(s, at + 12),
         electricity: flow_at(s, at + 24),
-        overhauls: overhauls,
-        removal: removal,
+        overhauls,
+        removal,
     }
 }

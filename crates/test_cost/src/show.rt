@@ -3,7 +3,7 @@
 use std::io;
 use test_sheets::show::Named;
 
-// A case's name, and the option, the start and the end of its arc.
+// A case's name, and the option, the start and the end of its arc. The option is a number, as `cost` takes it: some cases name none of the three.
 pub type Case = (&'static str, u64, u64, u64);
 
 pub fn answer(rt: &impl Print, sheet: &[u8], case: Case) -> io::Result<()> {

@@ -12,7 +12,7 @@ pub overflow_add-sum : goal.overflow_add-sum
 overflow_add-sum c =
     let a = c.args in
     let next : c.loop-j.sum + c.overhaul_at-sum.result.0 ≡ due_by a.self a.n (c.loop-j.j + 1) =
-      rw (c.loop-j.invariant, c.overhaul_at-sum.ensures) (due_by-suc _ _ _ c.requires.0.divides.number) in
+    rw (c.loop-j.invariant, c.overhaul_at-sum.ensures) (due_by-suc _ _ _ c.requires.0.divides.number) in
     rw next (omega (arith, due_by-lt a.self c.requires.0.fits a.n (c.loop-j.j + 1) (omega arith)))
 
 pub loop-j-preserved : goal.loop-j-preserved

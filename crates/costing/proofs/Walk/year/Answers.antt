@@ -26,7 +26,7 @@ overflow_add-sum c =
     omega (
       arith,
       walk-room c.args.kept c.args.self s.self_value _ _ _ s.due_value s.steppable.0.divides.number c.in_service-maintenance.ensures
-      c.in_service-electricity.ensures s.steppable.0.fits (omega arith),
+          c.in_service-electricity.ensures s.steppable.0.fits (omega arith),
     )
 
 pub overflow_add-sum-2 : goal.overflow_add-sum-2
@@ -35,7 +35,7 @@ overflow_add-sum-2 c =
     omega (
       arith,
       walk-room c.args.kept c.args.self s.self_value _ _ _ s.due_value s.steppable.0.divides.number c.in_service-maintenance.ensures
-      c.in_service-electricity.ensures s.steppable.0.fits (omega arith),
+          c.in_service-electricity.ensures s.steppable.0.fits (omega arith),
     )
 
 pub overflow_add-sum-3 : goal.overflow_add-sum-3
@@ -44,7 +44,7 @@ overflow_add-sum-3 c =
     omega (
       arith,
       walk-room c.args.kept c.args.self s.self_value _ _ _ s.due_value s.steppable.0.divides.number c.in_service-maintenance.ensures
-      c.in_service-electricity.ensures s.steppable.0.fits (omega arith),
+          c.in_service-electricity.ensures s.steppable.0.fits (omega arith),
     )
 
 pub returns : goal.returns
