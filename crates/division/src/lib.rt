@@ -12,8 +12,7 @@ const TWO_32: u64 = 4_294_967_296;
 
 const TWO_51: u64 = 2_251_799_813_685_248;
 
-// A divisor, and 2^83 over it to the nearest whole number. `more` is 1 where that lies below 2^83 over the divisor, else 0: the product of
-// the two holds 2^83 once or not at all.
+// A divisor, and 2^83 over it to the nearest whole number. `more` is 1 where that lies below 2^83 over the divisor, else 0.
 #[derive(Clone, Copy)]
 pub struct Divisor {
     pub by: u64,
@@ -21,6 +20,7 @@ pub struct Divisor {
     pub more: u64,
     pub ghost positive: { 0 < by },
     pub ghost small: { by ≤ 1_200_000 },
+    // The reciprocal times the divisor is within half a divisor of 2^83, which goes into it once, or not at all where it lies below.
     pub ghost high: { 2 * (inverse * by) ≤ 2 * 2 ^ 83 + by },
     pub ghost low: { 2 * 2 ^ 83 ≤ 2 * (inverse * by) + by },
     pub ghost rounded: { more + inverse * by / 2 ^ 83 ≡ 1 },
