@@ -3,7 +3,7 @@ use native.Mathlib.Omega.{arith}
 use Rattle.costing.proofs.SizeLaws.{whole_le}
 use Rattle.costing.proofs.Kept.cost.Goals as goal
 
-pub overflow_add-result : goal.overflow_add-sum
+pub overflow_add-result : goal.overflow_add-result
 overflow_add-result c =
     let a = c.args in
     omega
