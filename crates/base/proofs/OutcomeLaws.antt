@@ -5,8 +5,8 @@
 --     passed_on      a refusal is passed on as it is
 --     accepts, ok_total, priced_exactly, near_total, total_near      what is said of an answer's number and total, said of the outcome
 -- Assumes nothing.
-use Prim.Native.Nat.{ℕ, zero, suc, ◌<◌, ◌≤◌}
-use mathlib.Core.Path.{◌≡◌, refl, sym, ap}
+use Prim.Native.Nat.{ℕ, zero, suc, ◌<◌}
+use mathlib.Core.Path.{◌≡◌, refl, ap}
 use mathlib.Core.Bool.{false≢true}
 use mathlib.Core.Logic.Iff
 use mathlib.Core.Logic.{◌↔◌}
@@ -16,7 +16,7 @@ use Rattle.base.specs.declared.Activity.{Activity}
 use Rattle.base.specs.declared.Activity.TheVariants.{Maintain, Renovate, Replace}
 use Rattle.base.specs.declared.Refusal.{Refusal}
 use Rattle.base.specs.declared.Refusal.TheVariants.{Length, Mark, Horizon, Rate, Lives, Amount, Inflation, Ageing, Overhauls, Words, NoChain, PlanLength, NotOffered, NotAChain, GeneralInflation, ListLength}
-use Rattle.base.specs.Outcome.{place, number_of, option_of, answer_by, answer_of, check_answer}
+use Rattle.base.specs.Outcome.{place, number_of, answer_by, answer_of}
 
 pub place_lt : (a : Activity) → place a < 3
 place_lt Maintain = omega arith

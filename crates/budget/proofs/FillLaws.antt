@@ -21,7 +21,7 @@ use Rattle.steps.specs.Payment.{Payment, rounded}
 use Rattle.costing.specs.Arc.{pays_removal, kept_of, arc_of, paid, closing, payments}
 use Rattle.costing.specs.Fit.{yearly, Small}
 use Rattle.costing.specs.declared.Kept.{Kept}
-use Rattle.costing.proofs.SizeLaws.{whole_most}
+use Rattle.costing.proofs.SizeLaws.{units_small, whole_most}
 use Rattle.costing.proofs.SheetArcLaws.{kept_of_fits, kept_read}
 use Rattle.chain.specs.Chain.{replacements, activities, arcs_of, arcs, Feasible}
 use Rattle.chain.specs.PlanBytes.{count_field, ends_at, decode}
@@ -30,10 +30,11 @@ use Rattle.chain.proofs.PlanBytesLaws.{ends_next, ends_none}
 use Rattle.pricing.proofs.EndsLaws.{climbs_next}
 use Rattle.nominal.specs.Nominal.{cents}
 use Rattle.spreading.specs.Fallen.{falling, fallen}
-use Rattle.spreading.specs.Raised.{up_to, Raised}
-use Rattle.spreading.specs.Asks.{Room}
-use Rattle.spreading.proofs.RaisedLaws.{fallen_behind, fallen-up_to, fallen_past}
-use Rattle.spreading.proofs.SizeLaws.{room_after}
+use Rattle.spreading.specs.Raised.{up_to, in_money, Raised}
+use Rattle.spreading.specs.Asks.{Below, Room, MoneyFits}
+use Rattle.spreading.specs.declared.Money.{Money}
+use Rattle.spreading.proofs.RaisedLaws.{below_raised, fallen_behind, fallen-up_to, fallen_past}
+use Rattle.spreading.proofs.SizeLaws.{cents_small, room_after}
 use Rattle.budget.specs.Budget.{payments_of, units_in, units_of, cents_in, last_in_cents, cents_of}
 use Rattle.budget.proofs.AddsLaws.{chain_by}
 
@@ -64,6 +65,25 @@ module _ (s : Sheet) (option start end : ℕ) (known : option ≤ 2) (k : Kept) 
         let most : sum_of φ added ≤ (end - start) * yearly =
         rw (sum_of-append φ (paid k (end - start)) _) (whole_most φ k (rw made fits) removed (end - start) s.horizon small) in
         room_after φ counts s.horizon (start * yearly) ((end - start) * yearly) (end * yearly) old new added room same h most (omega arith)
+
+  -- so it does in either list, up to a last year
+  module _ (fit : Fit s) (forward : start ≤ end) (inside : end ≤ s.horizon) (last : ℕ) (room : Below last (start * yearly) old) where
+    figure-below : (φ : Payment → ℕ) → Small φ (kept_of s option start) (end - start) → Raised φ old new added → Below last (end * yearly) new
+    figure-below φ small h y early =
+        let fits = kept_of_fits s fit option start known (omega arith) in
+        let most : sum_of φ added ≤ (end - start) * yearly =
+        rw (made, sum_of-append φ (paid (kept_of s option start) (end - start)) _)
+        (whole_most φ (kept_of s option start) fits removed (end - start) s.horizon small) in
+        omega (arith, below_raised φ last (start * yearly) ((end - start) * yearly) old new added room h most y early)
+
+    pub units-below : Raised (rounded k.discount) old new added → Below last (end * yearly) new
+    units-below h =
+        let fits = kept_of_fits s fit option start known (omega arith) in
+        figure-below (rounded k.discount) (rw made (units_small (kept_of s option start) fits (end - start) (omega (arith, fit.horizon_high)))) h
+
+    pub cents-below : (m : Money) → MoneyFits m → Raised (in_money m) old new added → Below last (end * yearly) new
+    cents-below m counts h =
+        figure-below (in_money m) (cents_small m counts (kept_of s option start) (kept_of_fits s fit option start known (omega arith)) (end - start)) h
 
 -- the ends that stand in a plan behind the first k, of which there are so many
 abbrev pub ends_behind : (plan : List ℕ) (count k : ℕ) → List ℕ

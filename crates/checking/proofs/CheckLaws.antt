@@ -1,5 +1,5 @@
--- The check's two loops follow `checked`: one law for a turn of each loop, and one for each way out. Before them, that an outcome which
--- answers as `checked` does accepts the sheets that pass (`check_accepts`), and how large the discount factor is (`discount_small`). Assumes
+-- The check's two loops follow `checked`: one law for a turn of each loop, and one for each way out. Before them, that an answer which is
+-- `checked` accepts the sheets that pass (`check_answers`), and so an outcome (`check_accepts`), and how large the discount factor is (`discount_small`). Assumes
 -- nothing.
 use Prim.Native.Nat.{ℕ, ◌+◌, ◌≤◌, ◌<◌}
 use mathlib.Core.Path.{◌≡◌, refl, sym, ap, ◌∙◌}
@@ -25,9 +25,13 @@ use Rattle.checking.proofs.PassesLaws.{header-iff, checked-iff}
 abbrev none : Unit {0} → ℕ
 none d = 0
 
+-- an answer a, which is b, is that of `checked`, and it accepts exactly the sheets that pass
+pub check_answers : (s : List ℕ) (a b : Answer) → a ≡ b → b ≡ checked s → (a ≡ checked s) × ((a.number ≡ 0) ↔ Passes s)
+check_answers s a b p q = (p ∙ q, rw (p ∙ q) (checked-iff s))
+
 -- an outcome that answers as `checked` does accepts exactly the sheets that pass
 pub check_accepts : (s : List ℕ) (r : Result Unit Refusal) → check_answer r ≡ checked s → IsOk r ↔ Passes s
-check_accepts s r t = Iff.trans (Iff.symm (accepted_number none r)) (rw t (checked-iff s))
+check_accepts s r t = Iff.trans (Iff.symm (accepted_number none r)) (check_answers s (check_answer r) (check_answer r) refl t).1
 
 -- the discount factor of a sheet whose header passes
 pub discount_small : (s : List ℕ) (discount : ℕ) → discount ≡ 1_000_000 + (sheet_of s).rate → header_number s ≡ 0 → discount ≤ 1_200_000

@@ -1,7 +1,7 @@
 -- Which row of the refusal table is the first that refuses, and that none does, by the rules of the rows (`Refusals.antt`): of a sheet's
 -- header, and of an option's record at a rate. Assumes nothing.
 use Prim.Native.Nat.{ℕ}
-use mathlib.Core.Path.{◌≡◌, refl}
+use mathlib.Core.Path.{◌≡◌}
 use mathlib.Core.List.{List}
 use mathlib.Core.Bool.{true, false, ◌&&◌}
 use lib.ListN.{length}

@@ -90,14 +90,23 @@ module _ (s : List ℕ) (option start end : ℕ) where
       let h = costed-iff.0 e in
       rw (costed-accepted e) (arc_error (arc_of (sheet_of s) option start end) (arc_of_lem h.0 h.1))
 
-  -- an outcome that answers so, when it is an acceptance, and how near the cost then is
+  -- what was answered, when it is an acceptance, and how near the cost then is
   pub cost_answers :
+      (a : Answer) → a ≡ costed s option start end
+      → (a ≡ costed s option start end)
+      × (((a.number ≡ 0) ↔ (Passes s × Offered (sheet_of s) option start end))
+      × (a.number ≡ 0 → WithinAllowance (arc_of (sheet_of s) option start end) a.total))
+  cost_answers a e = (e, (rw e costed-iff, rw e costed_near))
+
+  -- the same of an outcome that answers so
+  pub cost_outcome :
       (r : Result ℕ Refusal) → answer_of r ≡ costed s option start end
       → (answer_of r ≡ costed s option start end)
       × ((IsOk r ↔ (Passes s × Offered (sheet_of s) option start end))
       × IfOk r (WithinAllowance (arc_of (sheet_of s) option start end)))
-  cost_answers r e =
-      (e, (accepts r (rw e costed-iff), near_total r (WithinAllowance (arc_of (sheet_of s) option start end)) (rw e costed_near)))
+  cost_outcome r e =
+      let held = cost_answers (answer_of r) e in
+      (e, (accepts r held.1.0, near_total r (WithinAllowance (arc_of (sheet_of s) option start end)) held.1.1))
 
   pub costed_number_le : (costed s option start end).number ≤ 13
   unfolding costed costing

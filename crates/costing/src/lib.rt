@@ -1,6 +1,6 @@
 // What an arc costs: document 01, 'What an arc costs', and document 02, requests 4 and 6.
-// The public call is `cost`. The structs with their methods, `keeps_motors`, `pays_removal`, `kept_of`, `arc_cost`, `arc::running`
-// and `offer::offered` serve the crates above.
+// The public call is `cost`. The structs with their methods, `keeps_motors`, `pays_removal`, `kept_of`, `arc_cost` and `offer::offered` serve
+// the crates above. Those that take an option's number answer for every number, also for one that names no activity.
 
 #![tactic(auto)]
 

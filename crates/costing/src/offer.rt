@@ -1,4 +1,4 @@
-// Which arcs a sheet offers: row 13 of document 01's refusal table.
+// Which arcs a sheet offers: row 13 of document 01's refusal table. An option is a number here, as a caller of `cost` gives it, known or not.
 
 ghost use Rattle.std.specs.Prelude.{◌≡◌, ◌&&◌, ◌-◌};
 ghost use Rattle.sheet.specs.Sheet.{PlanningSheet};

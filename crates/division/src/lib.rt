@@ -26,7 +26,8 @@ pub struct Divisor {
     pub ghost rounded: { more + inverse * by / 2 ^ 83 ≡ 1 },
 }
 
-// The upper half of the product of two numbers, by their halves. The compiler makes one multiplication of this form.
+// The upper half of the product of two numbers, by their halves: the compiler makes one multiplication of this form, and the sums of the halves
+// are what the edit `carry_of_the_lower_sum_lost` takes a carry from, which std's `carrying_mul` would hide.
 fn upper(x: u64, y: u64) -> u64
     ensures { result ≡ x * y / 2 ^ 64 }
 {

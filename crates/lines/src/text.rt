@@ -14,7 +14,7 @@ fn put_word(text: &mut [u8], at: usize, word: &[u8]) -> usize
     end
 }
 
-// How many digits a number has. The loop is over the number itself and counts no index; std has no `ilog10`.
+// How many digits a number has. The loop is over the number itself and counts no index.
 fn places(number: u64) -> usize
     ensures { result ≡ places 19 number }
 {

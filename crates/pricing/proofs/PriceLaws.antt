@@ -101,15 +101,25 @@ module _ (s plan : List ℕ) where
       let h = accepted-iff.0 e in
       rw (priced-accepted e) (total_near (sheet_of s) (fit s h.0) (decode plan) h.1.1)
 
-  -- an outcome that answers so, when it is an acceptance with a total, and how near that total then is
+  -- what was answered, when it is an acceptance with a total, and how near that total then is
   pub price_answers :
+      ((k : ℕ) → k < length plan → get_or plan k 0 < 256)
+      → (a : Answer) → a ≡ priced s plan
+      → (a ≡ priced s plan)
+      × (((total : ℕ) → ((a.number ≡ 0) × (a.total ≡ total)) ↔ PricedAt s plan total)
+      × (a.number ≡ 0 → TotalNear (sheet_of s) (decode plan) a.total))
+  price_answers byte a e = (e, (rw e (priced-iff byte), rw e priced_near))
+
+  -- the same of an outcome that answers so
+  pub price_outcome :
       ((k : ℕ) → k < length plan → get_or plan k 0 < 256)
       → (r : Result ℕ Refusal) → answer_of r ≡ priced s plan
       → (answer_of r ≡ priced s plan)
       × (((total : ℕ) → (r ≡ Ok total) ↔ PricedAt s plan total)
       × IfOk r (TotalNear (sheet_of s) (decode plan)))
-  price_answers byte r e =
-      (e, (priced_exactly r (rw e (priced-iff byte)), near_total r (TotalNear (sheet_of s) (decode plan)) (rw e priced_near)))
+  price_outcome byte r e =
+      let held = price_answers byte (answer_of r) e in
+      (e, (priced_exactly r held.1.0, near_total r (TotalNear (sheet_of s) (decode plan)) held.1.1))
 
   -- a sheet that passes gets option 3, and with every refusal the total is 0
   pub priced_option : Passes s → (priced s plan).option ≡ 3

@@ -15,7 +15,7 @@ use division::Divisor;
 #[derive(Clone, Copy)]
 pub struct Units(pub u64);
 
-// n / d, rounded up to a whole number.
+// n / d, rounded up to a whole number. It divides once; std's `div_ceil` takes the remainder too.
 pub fn up(n: u64, d: u64) -> u64
     requires { (0 < d) × (d ≤ 1_300_000) × (n ≤ 15_000_000_000_000_000_000) }
     ensures { result ≡ divided n d }

@@ -32,7 +32,8 @@ pub struct Fallen {
     pub next: usize,
 }
 
-// Writes all streams of an option, for the years 0 to last.
+// Writes all streams of an option, for the years 0 to last. Of the option's number it only asks whether its motors are kept, which any number
+// answers.
 pub fn fill(streams: &mut [u64], terms: Terms, option: u64, discount: Divisor, last: u64)
     requires discount_low { 1_000_000 ≤ discount.by }
     requires terms_fit { TermsFit discount.by terms }

@@ -1,9 +1,9 @@
 -- `check` is `checked`: the header's refusal, then the options' and their overhauls', left at the first refusal found. Assumes nothing.
-use Prim.Native.Nat.{ℕ, ◌+◌, ◌<◌}
+use Prim.Native.Nat.{ℕ}
 use mathlib.Core.Path.{◌≡◌, sym, ap, ◌∙◌}
 use mathlib.Core.List.{[], ◌∷◌}
 use native.Mathlib.Omega.{arith}
-use Rattle.std.specs.Prelude.{Result, Ok, Err, slice_index_or}
+use Rattle.std.specs.Prelude.{Ok, Err, slice_index_or}
 use Rattle.std.proofs.lemmas.Result.{err_from_is_err_and}
 use Rattle.base.specs.declared.Activity.{Activity}
 use Rattle.base.specs.declared.Activity.TheVariants.{Maintain, Renovate, Replace}
@@ -13,7 +13,7 @@ use Rattle.base.proofs.OutcomeLaws.{place_at}
 use Rattle.sheet.specs.Sheet.{sheet_of}
 use Rattle.sheet.specs.Parsed.{overhauls_of, terms_of}
 use Rattle.sheet.specs.declared.Terms.{Terms}
-use Rattle.checking.specs.Refusals.{overhaul_ok, header_number, checked}
+use Rattle.checking.specs.Refusals.{checked}
 use Rattle.checking.proofs.FirstLaws.{first_zero}
 use Rattle.checking.proofs.RuleLaws.{age_before_zero, age_before_suc, entry_tested}
 use Rattle.checking.proofs.PassesLaws.{header_sized, header-iff}

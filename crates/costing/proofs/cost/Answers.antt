@@ -3,25 +3,23 @@ use Prim.Native.Nat.{ℕ}
 use mathlib.Core.Path.{◌≡◌, refl, sym, ap, subst, ◌∙◌}
 use mathlib.Core.Bool.{true}
 use native.Mathlib.Omega.{arith}
-use Rattle.std.specs.Prelude.{Result, Ok, Err, IsOk}
+use Rattle.std.specs.Prelude.{Ok, Err}
 use Rattle.std.proofs.lemmas.Result.{err_from_is_err_and}
 use Rattle.base.specs.Answer.{accepted, refused}
 use Rattle.base.specs.declared.Refusal.TheVariants.{NotOffered}
-use Rattle.base.specs.Outcome.{place, answer_of, check_answer}
-use Rattle.base.proofs.OutcomeLaws.{place_lt, refused_number, passed_on, accepts, near_total}
+use Rattle.base.specs.Outcome.{answer_of, check_answer}
+use Rattle.base.proofs.OutcomeLaws.{refused_number, passed_on}
 use Rattle.sheet.specs.Sheet.{sheet_of}
 use Rattle.sheet.specs.Parsed.{terms_of}
 use Rattle.checking.specs.Passes.{Passes}
 use Rattle.checking.proofs.PassesLaws.{header_sized, checked-iff}
 use Rattle.checking.proofs.FitLaws.{fit}
-use Rattle.costing.specs.Arc.{since_of, arc_of}
-use Rattle.costing.specs.Offered.{offered}
-use Rattle.costing.specs.Costing.{costed}
+use Rattle.costing.specs.Arc.{since_of}
 use Rattle.costing.specs.Fit.{KeptFits}
 use Rattle.costing.specs.declared.Kept.{Kept}
 use Rattle.costing.proofs.SheetArcLaws.{kept_made, cost_whole, kept_fits}
 use Rattle.costing.proofs.OfferedLaws.{offered_on, offered_above, offered-iff}
-use Rattle.costing.proofs.CostLaws.{cost-refused, cost_unoffered, cost-offered, cost_answers}
+use Rattle.costing.proofs.CostLaws.{cost-refused, cost_unoffered, cost-offered, cost_outcome}
 use Rattle.costing.proofs.cost.Goals as goal
 
 pub returns-in_err-check : goal.returns-in_err-check
@@ -32,7 +30,7 @@ returns-in_err-check c =
     let q : answer_of r ≡ check_answer c.check.result =
     passed_on (λ (t : ℕ). t) (λ d. 0) r c.check.result c.in_err-check.field-0.0 p.0 c.in_err-check.was p.1 p.2 in
     let t = cost-refused a.sheet.now a.option a.start a.end (answer_of r) (q ∙ c.check.ensures.answer) (refused_number (λ (t : ℕ). t) r p.0 p.1) in
-    let held = cost_answers a.sheet.now a.option a.start a.end r t in
+    let held = cost_outcome a.sheet.now a.option a.start a.end r t in
     record { answer = held.0; accepted = held.1.0; near = held.1.1 }
 
 pub returns-in_err-activity : goal.returns-in_err-activity
@@ -44,7 +42,7 @@ returns-in_err-activity c =
     let q : answer_of r ≡ refused 13 3 = rw (p.1, p.2, out.0) refl in
     let passes : Passes a.sheet.now = c.check.ensures.accepted.0 (rw c.in_ok-check.was refl) in
     let t = q ∙ cost_unoffered a.sheet.now a.option a.start a.end ((checked-iff _).1 passes) (offered_above (sheet_of a.sheet.now) a.option a.start a.end out.1) in
-    let held = cost_answers a.sheet.now a.option a.start a.end r t in
+    let held = cost_outcome a.sheet.now a.option a.start a.end r t in
     record { answer = held.0; accepted = held.1.0; near = held.1.1 }
 
 pub terms_of-terms-requires : goal.terms_of-terms-requires
@@ -64,7 +62,7 @@ returns-then-not-offered_by c =
     let tested = c.offered_by.ensures ∙ offered_on p a.option a.start a.end c.horizon_of-horizon.ensures terms in
     let passes : Passes a.sheet.now = c.check.ensures.accepted.0 (rw c.in_ok-check.was refl) in
     let t = cost_unoffered a.sheet.now a.option a.start a.end ((checked-iff _).1 passes) (sym tested ∙ c.if-not-offered_by.true) in
-    let held = cost_answers a.sheet.now a.option a.start a.end (Err NotOffered) t in
+    let held = cost_outcome a.sheet.now a.option a.start a.end (Err NotOffered) t in
     record { answer = held.0; accepted = held.1.0; near = held.1.1 }
 
 -- the arc is offered where the code goes on, and the option that is kept is the arc's
@@ -97,5 +95,5 @@ returns c =
     let passes : Passes a.sheet.now = c.check.ensures.accepted.0 (rw c.in_ok-check.was refl) in
     let units = c.cost-units.ensures ∙ cost_whole p a.option a.start a.end made c.pays_removal.ensures c.horizon_of-horizon.ensures in
     let t = ap accepted units ∙ cost-offered a.sheet.now a.option a.start a.end ((checked-iff _).1 passes) (sym tested ∙ c.if-not-offered_by.false) in
-    let held = cost_answers a.sheet.now a.option a.start a.end (Ok c.cost-units.result.0) t in
+    let held = cost_outcome a.sheet.now a.option a.start a.end (Ok c.cost-units.result.0) t in
     record { answer = held.0; accepted = held.1.0; near = held.1.1 }

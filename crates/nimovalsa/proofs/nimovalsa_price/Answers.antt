@@ -1,5 +1,4 @@
 -- `nimovalsa_price` returns what `price` answers; the answer packs, since a chain costs less than 2^56 units. Assumes nothing.
-use Prim.Native.Nat.{ℕ}
 use mathlib.Core.Path.{◌∙◌}
 use mathlib.Core.Logic.Iff
 use Rattle.base.proofs.OutcomeLaws.{ok_total, total_near}

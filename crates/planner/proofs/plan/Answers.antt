@@ -1,11 +1,9 @@
 -- `plan` is what its definitions say: refused by the check, too few words, or what the words and the plan of the chosen chain give. Its
 -- promises follow from that alone. Assumes nothing.
-use Prim.Native.Nat.{ℕ, ◌≤◌}
+use Prim.Native.Nat.{ℕ}
 use mathlib.Core.Path.{◌≡◌, refl, sym, subst, ◌∙◌}
 use mathlib.Core.List.{List}
 use native.Mathlib.Omega.{arith}
-use lib.ListN.{length}
-use Rattle.std.specs.Prelude.{Ok, Err}
 use Rattle.std.proofs.lemmas.Result.{err_from_is_err_and}
 use Rattle.base.specs.Outcome.{answer_of}
 use Rattle.base.proofs.OutcomeLaws.{refused_number, passed_on}
@@ -16,7 +14,7 @@ use Rattle.checking.specs.Passes.{Passes}
 use Rattle.checking.specs.Fit.{Fit, SheetFits}
 use Rattle.checking.proofs.PassesLaws.{header_sized, checked-iff}
 use Rattle.checking.proofs.FitLaws.{fit}
-use Rattle.tails.specs.Words.{words_needed, total_of, first_end}
+use Rattle.tails.specs.Words.{total_of, first_end}
 use Rattle.planning.proofs.PlanningLaws.{plan_refused, plan_few, plan_on}
 use Rattle.planner.proofs.FoundLaws.{years_held}
 use Rattle.planner.proofs.Demands.{plan_answers}

@@ -1,9 +1,8 @@
 -- `price` is `priced`: refused by the check, or no plan of a feasible chain, or the chain's rounded total. Assumes nothing.
-use Prim.Native.Nat.{ℕ, ◌<◌}
+use Prim.Native.Nat.{ℕ}
 use mathlib.Core.Path.{◌≡◌, refl, sym, subst, ap, ◌∙◌}
 use mathlib.Core.Bool.{true}
 use native.Mathlib.Omega.{arith}
-use lib.ListN.{length, get_or}
 use Rattle.std.specs.Prelude.{Ok, Err}
 use Rattle.std.proofs.lemmas.Result.{err_from_is_err_and}
 use Rattle.base.specs.Answer.{accepted}
@@ -21,7 +20,7 @@ use Rattle.chain.specs.Ordered.{Ordered}
 use Rattle.chain.proofs.FeasibleLaws.{ordered_of_feasible}
 use Rattle.pricing.specs.Fitting.{fitting}
 use Rattle.pricing.proofs.FittingLaws.{fitting-iff}
-use Rattle.pricing.proofs.PriceLaws.{price_refused, price_unfit, price_fit, price_answers}
+use Rattle.pricing.proofs.PriceLaws.{price_refused, price_unfit, price_fit, price_outcome}
 use Rattle.pricing.proofs.price.Goals as goal
 
 pub returns-in_err-check : goal.returns-in_err-check
@@ -32,7 +31,7 @@ returns-in_err-check c =
     let q : answer_of r ≡ check_answer c.check.result =
     passed_on (λ (t : ℕ). t) (λ d. 0) r c.check.result c.in_err-check.field-0.0 p.0 c.in_err-check.was p.1 p.2 in
     let t = price_refused a.sheet.now a.plan.now (answer_of r) (q ∙ c.check.ensures.answer) (refused_number (λ (t : ℕ). t) r p.0 p.1) in
-    let held = price_answers a.sheet.now a.plan.now (λ k l. omega (arith, c.type_inv.plan k)) r t in
+    let held = price_outcome a.sheet.now a.plan.now (λ k l. omega (arith, c.type_inv.plan k)) r t in
     record { answer = held.0; accepted = held.1.0; near = held.1.1 }
 
 pub parse-parsed-requires : goal.parse-parsed-requires
@@ -44,7 +43,7 @@ returns-then-not-plan_fits c =
     let passes : Passes a.sheet.now = c.check.ensures.accepted.0 (rw c.in_ok-check.was refl) in
     let out = sym (c.plan_fits.ensures _ c.parse-parsed.ensures) ∙ c.if-not-plan_fits.true in
     let t = price_unfit a.sheet.now a.plan.now ((checked-iff _).1 passes) out in
-    let held = price_answers a.sheet.now a.plan.now (λ k l. omega (arith, c.type_inv.plan k)) (Err NotAChain) t in
+    let held = price_outcome a.sheet.now a.plan.now (λ k l. omega (arith, c.type_inv.plan k)) (Err NotAChain) t in
     record { answer = held.0; accepted = held.1.0; near = held.1.1 }
 
 pub plan_total-units-requires : goal.plan_total-units-requires
@@ -69,5 +68,5 @@ returns c =
     sym (c.plan_fits.ensures _ c.parse-parsed.ensures) ∙ c.if-not-plan_fits.false in
     let units = c.plan_total-units.ensures _ c.parse-parsed.ensures in
     let t = ap accepted units ∙ price_fit a.sheet.now a.plan.now ((checked-iff _).1 passes) found in
-    let held = price_answers a.sheet.now a.plan.now (λ k l. omega (arith, c.type_inv.plan k)) (Ok c.plan_total-units.result.0) t in
+    let held = price_outcome a.sheet.now a.plan.now (λ k l. omega (arith, c.type_inv.plan k)) (Ok c.plan_total-units.result.0) t in
     record { answer = held.0; accepted = held.1.0; near = held.1.1 }

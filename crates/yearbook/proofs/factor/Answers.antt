@@ -1,5 +1,4 @@
 -- `factor` is `factor_answer`: refused by the rate, or by the year, or the factor. Assumes nothing.
-use Prim.Native.Nat.{ℕ}
 use mathlib.Core.Path.{ap, sym, ◌∙◌}
 use native.Mathlib.Omega.{arith}
 use Rattle.base.specs.Answer.{accepted}

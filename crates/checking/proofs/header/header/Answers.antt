@@ -8,7 +8,7 @@ use lib.ListN.{length}
 use borrow.Author.Tests.{le-leb, lt-leb}
 use Rattle.base.specs.Answer.{answered}
 use Rattle.base.specs.Numbers.{u16_at}
-use Rattle.sheet.specs.Layout.{length_ok, Sized}
+use Rattle.sheet.specs.Layout.{length_ok}
 use Rattle.sheet.specs.Sheet.{sheet_of}
 use Rattle.sheet.proofs.LayoutLaws.{sized}
 use Rattle.checking.specs.Refusals.{mark_ok, version_ok, horizon_ok, header_number}

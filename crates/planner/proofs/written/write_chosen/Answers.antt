@@ -1,6 +1,5 @@
 -- The plan of the chosen chain: no chain, a buffer that is too short for it, or its plan written. Assumes nothing.
-use Prim.Native.Nat.{ℕ}
-use mathlib.Core.Path.{sym, ap, ◌∙◌}
+use mathlib.Core.Path.{sym, ◌∙◌}
 use native.Mathlib.Omega.{arith}
 use Rattle.sheet.proofs.ParsedLaws.{horizon_read}
 use Rattle.front.specs.Planned.{planned}
