@@ -1,8 +1,8 @@
 -- What the loops over a chain do to the words. An arc of a sheet (`arc_read`, `arc-room`); one replacement more and none, where `end` is the next
--- end that stands in the plan (`ends_first`, `climbs_more`, `falls_next`, `falls_none`); the chain in a plan (`chain_raised`); and all words, of units
+-- end that stands in the plan (`ends_first`, `falls_next`, `falls_none`); the chain in a plan (`chain_raised`); and all words, of units
 -- and of cents (`units_written`, `cents_written`). Assumes nothing.
 use Prim.Native.Nat.{ℕ, suc, ◌+◌, ◌-◌, ◌*◌, ◌≤◌, ◌<◌}
-use mathlib.Core.Path.{◌≡◌, refl, ap, subst, ◌∙◌}
+use mathlib.Core.Path.{◌≡◌, refl, ap, ◌∙◌}
 use mathlib.Core.List.{List, ◌++◌}
 use mathlib.Core.Bool.{Bool}
 use native.Mathlib.Omega.{arith}
@@ -24,10 +24,8 @@ use Rattle.costing.specs.declared.Kept.{Kept}
 use Rattle.costing.proofs.SizeLaws.{units_small, whole_most}
 use Rattle.costing.proofs.SheetArcLaws.{kept_of_fits, kept_read}
 use Rattle.chain.specs.Chain.{replacements, activities, arcs_of, arcs, Feasible}
-use Rattle.chain.specs.PlanBytes.{count_field, ends_at, decode}
-use Rattle.chain.specs.Ordered.{Climbs}
-use Rattle.chain.proofs.PlanBytesLaws.{ends_next, ends_none}
-use Rattle.pricing.proofs.EndsLaws.{climbs_next}
+use Rattle.chain.specs.PlanBytes.{count_field, end_field, ends_at, decode}
+use Rattle.chain.proofs.PlanBytesLaws.{ends_left, ends_more, ends_done}
 use Rattle.nominal.specs.Nominal.{cents}
 use Rattle.spreading.specs.Fallen.{falling, fallen}
 use Rattle.spreading.specs.Raised.{up_to, in_money, Raised}
@@ -85,42 +83,26 @@ module _ (s : Sheet) (option start end : ℕ) (known : option ≤ 2) (k : Kept) 
     cents-below m counts h =
         figure-below (in_money m) (cents_small m counts (kept_of s option start) (kept_of_fits s fit option start known (omega arith)) (end - start)) h
 
--- the ends that stand in a plan behind the first k, of which there are so many
-abbrev pub ends_behind : (plan : List ℕ) (count k : ℕ) → List ℕ
-ends_behind plan count k = ends_at plan (19 + 2 * k) (count - k)
-
-module _ (plan : List ℕ) (count : ℕ) where
-  pub ends_first : ends_behind plan count 0 ≡ ends_at plan 19 count
-  ends_first = let e : count - 0 ≡ count = omega arith in rw e refl
-
-  module _ (k : ℕ) (l : k < count) {end : ℕ} (read : end ≡ u16_at plan (19 + 2 * k)) where
-    ends_more : ends_at plan (19 + 2 * k + 2) (count - k - 1) ≡ ends_behind plan count (k + 1)
-    ends_more =
-        let e : 19 + 2 * (k + 1) ≡ 19 + 2 * k + 2 = omega arith in
-        let f : count - (k + 1) ≡ count - k - 1 = omega arith in
-        rw (e, f) refl
-
-    pub climbs_more : (T y : ℕ) → Climbs T y (ends_behind plan count k) → (y < end) × Climbs T end (ends_behind plan count (k + 1))
-    climbs_more T y h =
-        let n = climbs_next plan (19 + 2 * k) (count - k) (omega arith) read T y h in
-        (n.0, subst (Climbs T end) ends_more n.1)
+-- all ends of a plan
+pub ends_first : (plan : List ℕ) (count : ℕ) → ends_left plan count 0 ≡ ends_at plan 19 count
+ends_first plan count = let e : count - 0 ≡ count = omega arith in rw e refl
 
 module _ (φ : Payment → ℕ) (p : PlanningSheet) (y : ℕ) where
   -- what falls of replacements whose ends stand in a plan behind the first k: one more, and none
   abbrev pub falls : (plan : List ℕ) (count k start : ℕ) → ℕ
-  falls plan count k start = fallen φ y (payments_of (arcs_of p (replacements start (ends_behind plan count k))))
+  falls plan count k start = fallen φ y (payments_of (arcs_of p (replacements start (ends_left plan count k))))
 
   pub falls_next :
-      (plan : List ℕ) (count k : ℕ) (l : k < count) → {end : ℕ} (read : end ≡ u16_at plan (19 + 2 * k)) (start : ℕ)
+      (plan : List ℕ) (count k : ℕ) (l : k < count) → {end : ℕ} (read : end ≡ end_field plan k) (start : ℕ)
       → falls plan count k start ≡ fallen φ y (payments (arc_of p replace start end)) + falls plan count (k + 1) end
   unfolding payments_of arcs_of replacements
   falls_next plan count k l {end} read start =
-      rw (ends_next plan (19 + 2 * k) (count - k) (omega arith), ← read, ends_more plan count k l read)
-      (sum_of-append (falling φ y) (payments (arc_of p replace start end)) (payments_of (arcs_of p (replacements end (ends_behind plan count (k + 1))))))
+      rw (ends_more plan count k l read)
+      (sum_of-append (falling φ y) (payments (arc_of p replace start end)) (payments_of (arcs_of p (replacements end (ends_left plan count (k + 1))))))
 
   pub falls_none : (plan : List ℕ) (count start : ℕ) → falls plan count count start ≡ 0
   unfolding sum_of payments_of arcs_of replacements
-  falls_none plan count start = let e : count - count ≡ 0 = omega arith in rw (e, ends_none plan (19 + 2 * count))
+  falls_none plan count start = rw (ends_done plan count count (omega arith))
 
 -- maintaining, renovating and the replacements, where i, j and m are the numbers read from the plan
 pub chain_raised :

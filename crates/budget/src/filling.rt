@@ -15,7 +15,8 @@ ghost use Rattle.spreading.specs.Asks.{Room};
 ghost use Rattle.budget.specs.Budget.{payments_of, units_of, cents_of};
 ghost use Rattle.budget.specs.Asks.{ListAsks, PlanAsks, FillAsks};
 
-use base::{Activity, numbers};
+use base::Activity;
+use chain::reading;
 use division::Divisor;
 use sheet::Sheet;
 use spreading::{Ledger, Money};
@@ -63,7 +64,7 @@ fn add_replacements<L: Ledger>(
 {
     let mut year = start;
     for k in 0..count {
-        let end = numbers::u16_at(plan, 19 + 2 * k);
+        let end = reading::end_at(plan, k);
         add_activity(words, sheet, ledger, Activity::Replace, year, end);
         year = end;
     }
@@ -74,12 +75,12 @@ fn add_chain<L: Ledger>(words: &mut [u64], sheet: &Sheet, ledger: L, plan: &[u8]
     requires { ListAsks (L.ready ledger) (L.counts ledger) words.old sheet.now 0 × PlanAsks plan.now sheet.now.horizon }
     ensures { (p : PlanningSheet) → sheet.now ≡ parsed p → Raised (L.figure ledger) words.old words.new (payments_of (arcs p (decode plan.now))) }
 {
-    let i = numbers::u16_at(plan, 13);
-    let j = numbers::u16_at(plan, 15);
-    let count = numbers::u16_at(plan, 17);
+    let i = reading::i_of(plan);
+    let j = reading::j_of(plan);
+    let count = reading::count_of(plan);
     add_activity(words, sheet, ledger, Activity::Maintain, 0, i);
     add_activity(words, sheet, ledger, Activity::Renovate, i, j);
-    add_replacements(words, sheet, ledger, j, plan, count as usize);
+    add_replacements(words, sheet, ledger, j, plan, count);
 }
 
 // Writes what the chain pays in the years 0 to T, and in cents to year 15, or to T if sooner.

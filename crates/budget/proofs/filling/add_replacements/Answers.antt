@@ -1,7 +1,9 @@
 -- One replacement more. Assumes nothing.
 use mathlib.Core.Path.{◌≡◌, refl, ◌∙◌}
 use native.Mathlib.Omega.{arith}
-use Rattle.budget.proofs.FillLaws.{ends_first, climbs_more, falls_next, falls_none}
+use Rattle.chain.proofs.PlanBytesLaws.{ends_more}
+use Rattle.pricing.proofs.EndsLaws.{climbs_more}
+use Rattle.budget.proofs.FillLaws.{ends_first, falls_next, falls_none}
 use Rattle.budget.proofs.filling.add_replacements.Goals as goal
 
 pub loop-k-init : goal.loop-k-init
@@ -24,7 +26,7 @@ pub add_activity-requires-clause-in_order : goal.add_activity-requires-clause-in
 add_activity-requires-clause-in_order g c =
     let a = c.args in
     let l = c.loop-k in
-    let n = climbs_more a.plan.now a.count l.k c.loop-k-test.true c.u16_at-end.ensures.0 a.sheet.now.horizon l.year l.invariant.climbs in
+    let n = climbs_more (ends_more a.plan.now a.count l.k c.loop-k-test.true c.end_at-end.ensures.0) a.sheet.now.horizon l.year l.invariant.climbs in
     let up = n.0 in
     (omega arith, n.1.early)
 
@@ -34,8 +36,8 @@ loop-k-preserved g c =
     let l = c.loop-k in
     let plan = a.plan.now in
     let φ = g.L.Ledger.figure a.ledger in
-    let read = c.u16_at-end.ensures.0 in
-    let n = climbs_more plan a.count l.k c.loop-k-test.true read a.sheet.now.horizon l.year l.invariant.climbs in
+    let read = c.end_at-end.ensures.0 in
+    let n = climbs_more (ends_more plan a.count l.k c.loop-k-test.true read) a.sheet.now.horizon l.year l.invariant.climbs in
     record {
       in_range = omega (arith, c.loop-k-test.true);
       climbs = n.1;

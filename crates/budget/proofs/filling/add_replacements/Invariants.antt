@@ -8,13 +8,14 @@ use Rattle.sheet.specs.Parsed.{parsed}
 use Rattle.costing.specs.Fit.{yearly}
 use Rattle.chain.specs.Ordered.{Climbs}
 use Rattle.spreading.specs.Asks.{Room}
-use Rattle.budget.proofs.FillLaws.{ends_behind, falls}
+use Rattle.chain.proofs.PlanBytesLaws.{ends_left}
+use Rattle.budget.proofs.FillLaws.{falls}
 use Rattle.budget.proofs.filling.add_replacements.Given as goal
 
 abbrev pub invariant-loop-k : goal.invariant-loop-k
 invariant-loop-k g l = record {
   in_range : l.k ≤ l.count;
-  climbs : Climbs l.sheet.horizon l.year (ends_behind l.plan l.count l.k);
+  climbs : Climbs l.sheet.horizon l.year (ends_left l.plan l.count l.k);
   same_length : length l.words ≡ length l.initial.words;
   room : Room (g.L.Ledger.counts l.ledger) l.words l.sheet.horizon (l.year * yearly);
   rest : (p : PlanningSheet) → l.sheet ≡ parsed p → (y : ℕ)
