@@ -1,10 +1,11 @@
--- Laws of numbers in base ten: one digit, and one more than the tenth has (`places-below`, `places_tenth`); n digits hold a number below 10^n
+-- Laws of numbers in base ten: one digit, and one more than the power of ten that a number reaches (`places-below`, `places_counted`); n digits hold a number below 10^n
 -- (`decimal-length`); digits are put from the last one on (`digit_put`, `digit_none`). Assumes
 -- nothing.
-use Prim.Native.Nat.{ℕ, zero, suc, ◌+◌, ◌-◌, ◌/◌, ◌%◌, ◌^◌, ◌≤◌, ◌<◌}
-use mathlib.Core.Path.{◌≡◌, refl, subst, ◌∙◌}
+use Prim.Native.Nat.{ℕ, zero, suc, ◌+◌, ◌-◌, ◌*◌, ◌/◌, ◌%◌, ◌^◌, ◌≤◌, ◌<◌, max}
+use mathlib.Core.Path.{◌≡◌, refl, sym, subst, ◌∙◌}
 use mathlib.Core.List.{List, [], ◌∷◌}
 use native.Mathlib.Nat.{div-lt_iff_lt-mul, pow-suc, zero-lt-suc}
+use Rattle.std.proofs.Math.Nat.{one-le-pow}
 use native.Mathlib.Omega.{arith}
 use lib.Dec.{ltb}
 use lib.ListN.{length, set, length-append}
@@ -30,12 +31,24 @@ places_none : (x : ℕ) → places 0 x ≡ 1
 unfolding places
 places_none x = refl
 
--- a number of two digits or more that n divisions are enough for: its tenth, and one division less
-pub places_tenth :
-    (n x : ℕ) → 10 ≤ x → x < 10 ^ suc n → (1 ≤ n) × ((x / 10 < 10 ^ suc (n - 1)) × (places n x ≡ 1 + places (n - 1) (x / 10)))
-places_tenth zero x ten h = absurd (omega arith)
-places_tenth (suc n) x ten h =
-    let e : suc n - 1 ≡ n = omega arith in (omega arith, rw e (tenth_lt (suc n) x h, places-from n x ten ∙ omega arith))
+-- a number from the r-th power of ten on and below the next one has one digit more than r
+places_by : (n r x : ℕ) → r ≤ n → 10 ^ r ≤ x → x < 10 * 10 ^ r → places n x ≡ r + 1
+places_by n zero x h low high = let one : 10 ^ 0 ≡ 1 = refl in rw (places-below n x (omega arith)) refl
+places_by zero (suc r) x h low high = absurd (omega arith)
+places_by (suc n) (suc r) x h low high =
+    let power : 10 ^ suc r ≡ 10 ^ r * 10 = pow-suc 10 r in
+    let some : 1 ≤ 10 ^ r = one-le-pow r 10 (zero-lt-suc 9) in
+    let from : 10 ^ r * 10 ≤ x = subst (λ (p : ℕ). p ≤ x) power low in
+    let below : x < 10 * (10 ^ r * 10) = subst (λ (p : ℕ). x < 10 * p) power high in
+    rw (places-from n x (omega arith), places_by n r (x / 10) (omega arith) (omega arith) (omega arith)) (omega arith)
+
+places_least : (n x : ℕ) → places n (max x 1) ≡ places n x
+places_least n zero = places-below n 1 (omega arith) ∙ sym (places-below n 0 (omega arith))
+places_least n (suc x) = let e : max (suc x) 1 ≡ suc x = omega arith in rw e refl
+
+-- so the logarithm counts digits, that of 1 for 0
+pub places_counted : (x y r : ℕ) → y ≡ max x 1 → r < 20 → 10 ^ r ≤ y → y < 10 * 10 ^ r → r + 1 ≡ places 19 x
+places_counted x y r e bound low high = sym (places_by 19 r y (omega arith) low high) ∙ rw e (places_least 19 x)
 
 places-le : (most n x : ℕ) → x < 10 ^ suc n → places most x ≤ suc n
 places-le zero n x h = rw (places_none x) (omega arith)

@@ -14,17 +14,12 @@ fn put_word(text: &mut [u8], at: usize, word: &[u8]) -> usize
     end
 }
 
-// How many digits a number has. The loop is over the number itself and counts no index.
+// How many digits a number has.
+#[tactic(auto, using(crate::proofs::DecimalLaws::places_counted))]
 fn places(number: u64) -> usize
     ensures { result ≡ places 19 number }
 {
-    let mut count: usize = 1;
-    let mut rest = number;
-    while 10 <= rest {
-        rest /= 10;
-        count += 1;
-    }
-    count
+    number.max(1).ilog10() as usize + 1
 }
 
 // Puts that many digits of a number, the last one first.
