@@ -34,7 +34,7 @@ fn pack(a: Answer) -> u64
     requires { Packs a }
     ensures { Returns result a }
 {
-    a.total * 256 + (a.number as u64) * 4 + (a.option as u64)
+    a.total * 256 + u64::from(a.number) * 4 + u64::from(a.option)
 }
 
 // Checking a sheet: total 0, and the number and the option of the refusal table.

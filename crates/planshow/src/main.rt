@@ -10,7 +10,7 @@ const OUT: i32 = 1;
 fn main() {
     let mut sheet = [0u8; 303];
     let length = io::read_full(IN, &mut sheet);
-    let mut text = [0u8; 6069];
+    let mut text = [0u8; printing::ROOM];
     let printed = printing::show(&sheet[..length], &mut text);
     io::write_all(OUT, &text[..printed]);
 }

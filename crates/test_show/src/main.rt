@@ -30,7 +30,7 @@ fn shown(rt: &(impl Files + Print), name: &str) -> io::Result<()> {
     let mut file = fs::open(rt, name)?;
     let mut sheet = [0u8; 303];
     let length = read_full(&mut file, &mut sheet)?;
-    let mut text = [0u8; 6069];
+    let mut text = [0u8; printing::ROOM];
     let printed = printing::show(&sheet[..length], &mut text);
     io::writer(rt).write_all(&text[..printed])
 }
