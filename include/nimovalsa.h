@@ -106,7 +106,7 @@ static inline unsigned nimovalsa_option(uint64_t answer)
  *     it may be any pointer, also NULL.
  *   - nothing changes those bytes during the call.
  *   - NIMOVALSA_CHECK_STACK bytes of stack are free. The call was measured
- *     to use 117 bytes; tests/c measures it again and fails above the figure
+ *     to use 113 bytes; tests/c measures it again and fails above the figure
  *     here. It is not proved.
  */
 #define NIMOVALSA_CHECK_STACK 2048
@@ -150,7 +150,7 @@ uint64_t nimovalsa_check(const uint8_t *sheet, size_t length);
  * written, and nothing is kept between calls.
  *
  * Duties of the caller: those of nimovalsa_check, with NIMOVALSA_COST_STACK
- * bytes of stack. The call was measured to use 896; tests/c measures it again
+ * bytes of stack. The call was measured to use 880; tests/c measures it again
  * and fails above the figure here. It is not proved.
  */
 #define NIMOVALSA_COST_STACK 8192
@@ -185,7 +185,7 @@ uint64_t nimovalsa_cost(const uint8_t *sheet, size_t length, uint64_t option,
  *     at any alignment. With length 0 it may be any pointer, also NULL.
  *   - nothing changes those bytes during the call.
  *   - NIMOVALSA_PRICE_STACK bytes of stack are free. The call was measured
- *     to use 1,840 bytes; tests/c measures it again and fails above the figure
+ *     to use 1,824 bytes; tests/c measures it again and fails above the figure
  *     here. It is not proved.
  */
 #define NIMOVALSA_PRICE_STACK 8192
@@ -236,7 +236,7 @@ uint64_t nimovalsa_price(const uint8_t *sheet, size_t sheet_length,
  *   - nothing else reads or changes plan and words during the call, and nothing
  *     changes the sheet.
  *   - NIMOVALSA_PLAN_STACK bytes of stack are free. The call was measured to
- *     use 43,904 bytes; tests/c measures it again and fails above the figure
+ *     use 45,024 bytes; tests/c measures it again and fails above the figure
  *     here. It is not proved.
  */
 #define NIMOVALSA_PLAN_WORDS 301
@@ -296,7 +296,7 @@ uint64_t nimovalsa_plan(const uint8_t *sheet, size_t sheet_length,
  *   - nothing else reads or changes units and cents during the call, and
  *     nothing changes sheet and plan.
  *   - NIMOVALSA_BUDGET_STACK bytes of stack are free. The call was measured to
- *     use 3,568 bytes; tests/c measures it again and fails above the figure
+ *     use 2,752 bytes; tests/c measures it again and fails above the figure
  *     here. It is not proved.
  */
 #define NIMOVALSA_BUDGET_UNITS 301
