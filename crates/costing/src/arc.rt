@@ -36,17 +36,20 @@ pub fn running(flow: Flow, discount: Divisor, since: u64, from: u64) -> Units
 }
 
 impl Kept {
-    // What the overhauls of age n cost.
+    // What the overhauls of age n cost. The lists are locals: indexed where they lie, the whole record is copied in every year of an arc, which then
+    // takes twice as long.
     fn overhauls_at(self, discount: Divisor, n: u64) -> Units
         requires { Steppable self discount × (n ≤ 300) }
         ensures { result.0 ≡ worth self (overhauls_at self n) }
     {
-        let overhauls = self.terms.overhauls;
+        let terms = self.terms;
+        let overhauls = terms.overhauls;
+        let ages = overhauls.ages;
+        let amounts = overhauls.amounts;
+        let count = overhauls.count as usize;
         let mut sum = 0;
-        for j in 0..overhauls.count as usize {
-            let age = overhauls.ages[j];
-            let amount = overhauls.amounts[j];
-            sum += overhaul_at(age, amount, overhauls.grow, discount, self.from, n).0;
+        for j in 0..count {
+            sum += overhaul_at(ages[j], amounts[j], overhauls.grow, discount, self.from, n).0;
         }
         Units(sum)
     }
@@ -56,12 +59,13 @@ impl Kept {
         requires { Steppable self discount }
         ensures { result ≡ walk_at self 0 }
     {
-        let i = self.terms.investment;
-        let m = self.terms.maintenance;
+        let terms = self.terms;
+        let i = terms.investment;
+        let m = terms.maintenance;
         Walk {
             cost: paid_once(i.amount, i.grow, discount, self.from),
             maintenance: paid_once(m.amount, m.grow, discount, self.from),
-            electricity: running(self.terms.electricity, discount, self.since, self.from),
+            electricity: running(terms.electricity, discount, self.since, self.from),
             years: 0,
         }
     }
@@ -95,7 +99,8 @@ impl Kept {
         requires { Steppable self discount × (years ≤ 300) }
         ensures { result.0 ≡ worth self (closing self removed years horizon) }
     {
-        let removal = self.terms.removal;
+        let terms = self.terms;
+        let removal = terms.removal;
         if removal.amount == 0 {
             return Units(0);
         }
@@ -112,7 +117,8 @@ impl Kept {
     {
         let paid = self.paid(discount, years);
         let closing = self.closing(discount, removed, years, horizon);
-        Units(paid.0 + closing.0)
+        let sum = paid.0 + closing.0;
+        Units(sum)
     }
 }
 
@@ -124,11 +130,13 @@ impl Walk {
         requires due_value { due.0 ≡ worth kept (overhauls_at kept self.years) }
         ensures { result ≡ walk_at kept (self.years + 1) }
     {
-        let m = kept.terms.maintenance;
-        let e = kept.terms.electricity;
+        let terms = kept.terms;
+        let m = terms.maintenance;
+        let e = terms.electricity;
+        let cost = self.cost;
         let maintenance = self.maintenance.in_service(m.grow, m.age, discount);
         let electricity = self.electricity.in_service(e.grow, e.age, discount);
-        let sum = self.cost.0 + due.0 + maintenance.0 + electricity.0;
+        let sum = cost.0 + due.0 + maintenance.0 + electricity.0;
         let years = self.years + 1;
         Walk {
             cost: Units(sum),
