@@ -14,12 +14,17 @@ mod removals;
 mod show;
 mod small;
 
-fn main(rt: HostRuntime) -> io::Result<()> {
-    paper::replacing(&rt)?;
-    paper::postponing(&rt)?;
-    paper::inflations(&rt)?;
-    small::inflations(&rt)?;
-    removals::all(&rt)?;
-    lengths::all(&rt)?;
-    refusals::all(&rt)
+fn all(rt: &impl Print) -> io::Result<()> {
+    paper::replacing(rt)?;
+    paper::postponing(rt)?;
+    paper::inflations(rt)?;
+    small::inflations(rt)?;
+    removals::all(rt)?;
+    lengths::all(rt)?;
+    refusals::all(rt)
+}
+
+// Lines that cannot be written are not told: what was printed is compared.
+fn main(rt: HostRuntime) {
+    let _ = all(&rt);
 }

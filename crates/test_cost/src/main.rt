@@ -13,10 +13,15 @@ mod removals;
 mod show;
 mod small;
 
-fn main(rt: HostRuntime) -> io::Result<()> {
-    small::cases(&rt)?;
-    motors::renovations(&rt)?;
-    removals::all(&rt)?;
-    paper::replacements(&rt)?;
-    refusals::all(&rt)
+fn all(rt: &impl Print) -> io::Result<()> {
+    small::cases(rt)?;
+    motors::renovations(rt)?;
+    removals::all(rt)?;
+    paper::replacements(rt)?;
+    refusals::all(rt)
+}
+
+// Lines that cannot be written are not told: what was printed is compared.
+fn main(rt: HostRuntime) {
+    let _ = all(&rt);
 }

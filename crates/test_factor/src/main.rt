@@ -35,8 +35,13 @@ fn rates(rt: &impl Print, rates: &[u64]) -> io::Result<()> {
     Ok(())
 }
 
-fn main(rt: HostRuntime) -> io::Result<()> {
-    rates(&rt, &USUAL)?;
-    rates(&rt, &OTHERS)?;
-    rates(&rt, &REFUSED)
+fn all(rt: &impl Print) -> io::Result<()> {
+    rates(rt, &USUAL)?;
+    rates(rt, &OTHERS)?;
+    rates(rt, &REFUSED)
+}
+
+// Lines that cannot be written are not told: what was printed is compared.
+fn main(rt: HostRuntime) {
+    let _ = all(&rt);
 }

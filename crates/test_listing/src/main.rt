@@ -26,12 +26,17 @@ use std::io;
 
 const SHEETS: u64 = 600;
 
-fn main(rt: HostRuntime) -> io::Result<()> {
+fn all(rt: &impl Print) -> io::Result<()> {
     let mut seed = 1;
     let mut tally = Tally::NONE;
     for number in 0..SHEETS {
         seed = draws::next_sheet(seed);
-        tally = compared::compare(&rt, tally, number, sheets::figures(seed))?;
+        tally = compared::compare(rt, tally, number, sheets::figures(seed))?;
     }
     println!(rt; "{tally}")
+}
+
+// Lines that cannot be written are not told: what was printed is compared.
+fn main(rt: HostRuntime) {
+    let _ = all(&rt);
 }

@@ -15,18 +15,23 @@ mod postponed;
 mod removals;
 mod show;
 
-fn main(rt: HostRuntime) -> io::Result<()> {
-    document::cases(&rt)?;
-    paper::replacements(&rt)?;
-    paper::none(&rt)?;
-    postponed::all_free(&rt)?;
-    postponed::maintained(&rt)?;
-    postponed::motors(&rt)?;
-    removals::plans(&rt)?;
-    document::lengths(&rt)?;
-    faulty::sheets(&rt)?;
-    lent_words::cases(&rt)?;
-    lent_words::replacements(&rt)?;
-    lent_words::none(&rt)?;
-    removals::words(&rt)
+fn all(rt: &impl Print) -> io::Result<()> {
+    document::cases(rt)?;
+    paper::replacements(rt)?;
+    paper::none(rt)?;
+    postponed::all_free(rt)?;
+    postponed::maintained(rt)?;
+    postponed::motors(rt)?;
+    removals::plans(rt)?;
+    document::lengths(rt)?;
+    faulty::sheets(rt)?;
+    lent_words::cases(rt)?;
+    lent_words::replacements(rt)?;
+    lent_words::none(rt)?;
+    removals::words(rt)
+}
+
+// Lines that cannot be written are not told: what was printed is compared.
+fn main(rt: HostRuntime) {
+    let _ = all(&rt);
 }

@@ -11,8 +11,13 @@ mod refusals;
 mod removals;
 mod show;
 
-fn main(rt: HostRuntime) -> io::Result<()> {
-    chains::priced(&rt)?;
-    removals::all(&rt)?;
-    refusals::all(&rt)
+fn all(rt: &impl Print) -> io::Result<()> {
+    chains::priced(rt)?;
+    removals::all(rt)?;
+    refusals::all(rt)
+}
+
+// Lines that cannot be written are not told: what was printed is compared.
+fn main(rt: HostRuntime) {
+    let _ = all(&rt);
 }

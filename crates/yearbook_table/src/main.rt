@@ -17,14 +17,19 @@ fn print_rate(rt: &impl Print, rate: u64) -> io::Result<()>
     Ok(())
 }
 
-fn main(rt: HostRuntime) -> io::Result<()> {
+fn table(rt: &impl Print) -> io::Result<()> {
     println!(rt;
         "// The present-worth factors of 2, 3, 4 and 5 per cent, one rate after the other, each from year 0 to year 300."
     )?;
     println!(rt; "// `yearbook_table` prints this file.\n")?;
     println!(rt; "pub const FACTORS: [u64; 1204] = [")?;
     for rate in [20_000, 30_000, 40_000, 50_000] {
-        print_rate(&rt, rate)?;
+        print_rate(rt, rate)?;
     }
     println!(rt; "];")
+}
+
+// Lines that cannot be written are not told: what was printed is compared.
+fn main(rt: HostRuntime) {
+    let _ = table(&rt);
 }
