@@ -32,7 +32,7 @@ fn two(rt: &impl Print) -> io::Result<()> {
 }
 
 // The small sheet with another horizon, up to which a replacement may last.
-pub fn lasting(horizon: u16) -> ShortSheet {
+pub fn lasting(horizon: u64) -> ShortSheet {
     small::sheet().lives(REPLACE_AT, 1, 16).put16(5, horizon)
 }
 

@@ -8,19 +8,19 @@ use std::io;
 use test_sheets::{Bytes, MAINTAIN_AT, RENOVATE_AT, ShortSheet, plain};
 
 // One field of the plain sheet set.
-fn set8(rt: &impl Print, name: &str, at: usize, value: u8) -> io::Result<()>
+fn set8(rt: &impl Print, name: &str, at: usize, value: u64) -> io::Result<()>
     requires { at + 1 ≤ 278 }
 {
     answer(rt, name, &plain().put8(at, value).0)
 }
 
-fn set16(rt: &impl Print, name: &str, at: usize, value: u16) -> io::Result<()>
+fn set16(rt: &impl Print, name: &str, at: usize, value: u64) -> io::Result<()>
     requires { at + 2 ≤ 278 }
 {
     answer(rt, name, &plain().put16(at, value).0)
 }
 
-fn set32(rt: &impl Print, name: &str, at: usize, value: u32) -> io::Result<()>
+fn set32(rt: &impl Print, name: &str, at: usize, value: u64) -> io::Result<()>
     requires { at + 4 ≤ 278 }
 {
     answer(rt, name, &plain().put32(at, value).0)
@@ -35,7 +35,7 @@ pub fn lengths(rt: &impl Print) -> io::Result<()> {
 }
 
 // The mark, a version and T 1, then zeros.
-fn version(rt: &impl Print, version: u8, length: usize) -> io::Result<()>
+fn version(rt: &impl Print, version: u64, length: usize) -> io::Result<()>
     requires { length ≤ 303 }
 {
     let mark = Bytes([0; 303]).put(0, b"RCS");
@@ -46,7 +46,7 @@ fn version(rt: &impl Print, version: u8, length: usize) -> io::Result<()>
     )
 }
 
-fn lengths_of(rt: &impl Print, number: u8) -> io::Result<()> {
+fn lengths_of(rt: &impl Print, number: u64) -> io::Result<()> {
     for length in [278, 279, 301, 302, 303] {
         version(rt, number, length)?;
     }
@@ -63,9 +63,9 @@ pub fn versions(rt: &impl Print) -> io::Result<()> {
 
 // 2 to 4
 pub fn header(rt: &impl Print) -> io::Result<()> {
-    set8(rt, "mark CCS", 0, b'C')?;
-    set8(rt, "mark RRS", 1, b'R')?;
-    set8(rt, "mark RCP", 2, b'P')?;
+    set8(rt, "mark CCS", 0, u64::from(b'C'))?;
+    set8(rt, "mark RRS", 1, u64::from(b'R'))?;
+    set8(rt, "mark RCP", 2, u64::from(b'P'))?;
     set16(rt, "version 257", 3, 257)?;
     set16(rt, "T 0", 5, 0)?;
     set16(rt, "T 1", 5, 1)?;
@@ -76,7 +76,7 @@ pub fn header(rt: &impl Print) -> io::Result<()> {
 }
 
 // 5
-const LIVES: [(u16, u16); 6] = [(1, 120), (1, 121), (7, 7), (3, 2), (1, 0), (0, 1)];
+const LIVES: [(u64, u64); 6] = [(1, 120), (1, 121), (7, 7), (3, 2), (1, 0), (0, 1)];
 
 pub fn lives(rt: &impl Print, at: usize) -> io::Result<()>
     requires { at ≤ 189 }
@@ -89,7 +89,7 @@ pub fn lives(rt: &impl Print, at: usize) -> io::Result<()>
 }
 
 // 6
-const AMOUNTS: [(&str, usize, u32); 6] = [
+const AMOUNTS: [(&str, usize, u64); 6] = [
     ("investment 10^9", 4, 1_000_000_000),
     ("investment 10^9 + 1", 4, 1_000_000_001),
     ("maintenance 10^9", 12, 1_000_000_000),
@@ -137,7 +137,7 @@ pub fn inflations(rt: &impl Print, at: usize) -> io::Result<()>
 }
 
 // 8, with f 0
-const AGEINGS: [(&str, usize, u32); 4] = [
+const AGEINGS: [(&str, usize, u64); 4] = [
     ("maintenance g 40,000", 20, 40_000),
     ("maintenance g 40,001", 20, 40_001),
     ("electricity g 40,000", 32, 40_000),
@@ -204,7 +204,7 @@ pub fn eight_used(at: usize) -> ShortSheet
 {
     let mut sheet = plain().put8(at + 40, 8);
     for j in 0..8 {
-        sheet = sheet.put16(at + 41 + 6 * j, j as u16 + 1);
+        sheet = sheet.put16(at + 41 + 6 * j, j as u64 + 1);
     }
     sheet
 }

@@ -50,7 +50,7 @@ pub fn record(rt: &impl Print, at: usize) -> io::Result<()>
 fn behind_eight(rt: &impl Print, name: &str, at: usize) -> io::Result<()>
     requires { at ≤ 189 }
 {
-    let r = Removal::of(1_000_000_000, -100_000);
+    let r = Removal::at(1_000_000_000, -100_000);
     answer(rt, name, &longer::sheet(eight_used(at), r, r, r).0)
 }
 

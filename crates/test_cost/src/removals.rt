@@ -39,7 +39,7 @@ fn eight_overhauls() -> LongSheet {
     let mut sheet = header.lives(REPLACE_AT, 9, 9).put8(REPLACE_AT + 40, 8);
     for j in 0..8 {
         let entry = REPLACE_AT + 41 + 6 * j;
-        sheet = sheet.put16(entry, j as u16 + 1).put32(entry + 2, 1);
+        sheet = sheet.put16(entry, j as u64 + 1).put32(entry + 2, 1);
     }
     longer::sheet(sheet, Removal::NONE, Removal::NONE, Removal::of(20, 0))
 }

@@ -4,7 +4,7 @@ use crate::planned::amply;
 use std::io;
 use test_sheets::{MAINTAIN_AT, RENOVATE_AT, REPLACE_AT, ShortSheet, plain};
 
-fn undiscounted(horizon: u16) -> ShortSheet {
+fn undiscounted(horizon: u64) -> ShortSheet {
     plain().put16(5, horizon).put32(7, 0)
 }
 

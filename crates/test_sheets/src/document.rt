@@ -2,7 +2,7 @@
 
 use crate::{REPLACE_AT, ShortSheet, plain};
 
-fn replacing(horizon: u16, shortest: u16, longest: u16) -> ShortSheet {
+fn replacing(horizon: u64, shortest: u64, longest: u64) -> ShortSheet {
     let header = plain().put16(5, horizon).put32(7, 0);
     header.lives(REPLACE_AT, shortest, longest)
 }

@@ -35,23 +35,23 @@ impl<const N: usize> Bytes<N> {
         Bytes(bytes)
     }
 
-    // A field of one byte, of two or of four.
-    pub fn put8(self, at: usize, value: u8) -> Self
+    // A field of one byte, of two or of four: the lowest bytes of a value, whatever it is.
+    pub fn put8(self, at: usize, value: u64) -> Self
         requires { at + 1 ≤ N }
     {
-        self.put(at, &[value])
+        self.put(at, &value.to_le_bytes()[..1])
     }
 
-    pub fn put16(self, at: usize, value: u16) -> Self
+    pub fn put16(self, at: usize, value: u64) -> Self
         requires { at + 2 ≤ N }
     {
-        self.put(at, &value.to_le_bytes())
+        self.put(at, &value.to_le_bytes()[..2])
     }
 
-    pub fn put32(self, at: usize, value: u32) -> Self
+    pub fn put32(self, at: usize, value: u64) -> Self
         requires { at + 4 ≤ N }
     {
-        self.put(at, &value.to_le_bytes())
+        self.put(at, &value.to_le_bytes()[..4])
     }
 
     pub fn put_i32(self, at: usize, value: i32) -> Self
@@ -61,7 +61,7 @@ impl<const N: usize> Bytes<N> {
     }
 
     // The shortest and the longest life in the record at a place.
-    pub fn lives(self, at: usize, shortest: u16, longest: u16) -> Self
+    pub fn lives(self, at: usize, shortest: u64, longest: u64) -> Self
         requires { at + 4 ≤ N }
     {
         self.put16(at, shortest).put16(at + 2, longest)

@@ -13,11 +13,11 @@ pub const REPLACE_AT: usize = 205;
 
 pub type LongSheet = Bytes<302>;
 
-// A removal amount and its inflation.
+// A removal amount and its inflation, whose four bytes are those of an i32.
 #[derive(Clone, Copy)]
 pub struct Removal {
-    pub amount: u32,
-    pub inflation: i32,
+    pub amount: u64,
+    pub inflation: u64,
 }
 
 impl Removal {
@@ -26,8 +26,14 @@ impl Removal {
         inflation: 0,
     };
 
-    pub fn of(amount: u32, inflation: i32) -> Removal {
+    pub fn of(amount: u64, inflation: u64) -> Removal {
         Removal { amount, inflation }
+    }
+
+    // The same of an inflation as it is written, below 0 too.
+    pub fn at(amount: u64, inflation: i32) -> Removal {
+        let field = u32::from_le_bytes(inflation.to_le_bytes());
+        Removal::of(amount, u64::from(field))
     }
 }
 
@@ -36,7 +42,7 @@ impl LongSheet {
     fn with_removal(self, at: usize, r: Removal) -> Self
         requires { at ≤ 205 }
     {
-        self.put32(at + 89, r.amount).put_i32(at + 93, r.inflation)
+        self.put32(at + 89, r.amount).put32(at + 93, r.inflation)
     }
 }
 

@@ -7,11 +7,11 @@ use crate::{MAINTAIN_AT, RENOVATE_AT, REPLACE_AT, ShortSheet, plain};
 // What differs from option to option; electricity does not age.
 #[derive(Clone, Copy)]
 struct Figures {
-    longest: u16,
-    investment: u32,
-    maintenance: u32,
-    ageing: u32,
-    electricity: u32,
+    longest: u64,
+    investment: u64,
+    maintenance: u64,
+    ageing: u64,
+    electricity: u64,
 }
 
 const MAINTAIN: Figures = Figures {
@@ -60,7 +60,7 @@ impl ShortSheet {
     }
 
     // The j-th overhaul, of 150,000, and the count with it.
-    fn overhaul(self, at: usize, j: u8, age: u16) -> ShortSheet
+    fn overhaul(self, at: usize, j: u64, age: u64) -> ShortSheet
         requires { (at ≤ 189) × (j ≤ 7) }
     {
         let entry = at + 41 + 6 * j as usize;
@@ -70,12 +70,12 @@ impl ShortSheet {
     }
 
     // The record at a place, with its overhauls at ages that lie evenly apart.
-    fn record(self, at: usize, f: Figures, overhauls: u8, apart: u16) -> ShortSheet
+    fn record(self, at: usize, f: Figures, overhauls: u64, apart: u64) -> ShortSheet
         requires { (at ≤ 189) × (overhauls ≤ 8) × (overhauls * apart < 2 ^ 16) }
     {
         let mut sheet = self.inflations(at).figures(at, f);
         for j in 0..overhauls {
-            sheet = sheet.overhaul(at, j, u16::from(j + 1) * apart);
+            sheet = sheet.overhaul(at, j, (j + 1) * apart);
         }
         sheet
     }

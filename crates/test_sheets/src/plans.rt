@@ -13,17 +13,17 @@ pub struct Plan {
 }
 
 // Mark, version, a total field of eight bytes 255, then i, j and m, and room for the ends.
-fn header(i: u16, j: u16, m: u16) -> Bytes<31> {
+fn header(i: u64, j: u64, m: u64) -> Bytes<31> {
     let mark = Bytes([0; 31]).put(0, b"RCP").put16(3, 1);
     let total = mark.put(5, &[255; 8]);
     total.put16(13, i).put16(15, j).put16(17, m)
 }
 
 impl Plan {
-    pub fn of(i: u16, j: u16, ends: &[u16]) -> Plan
+    pub fn of(i: u64, j: u64, ends: &[u64]) -> Plan
         requires { length ends.now ≤ 6 }
     {
-        let mut fields = header(i, j, ends.len() as u16);
+        let mut fields = header(i, j, ends.len() as u64);
         for (k, &end) in ends.iter().enumerate() {
             fields = fields.put16(19 + 2 * k, end);
         }
@@ -34,7 +34,7 @@ impl Plan {
     }
 
     // The plan with another field in place of one that it has.
-    pub fn put16(self, at: usize, value: u16) -> Plan
+    pub fn put16(self, at: usize, value: u64) -> Plan
         requires { at + 2 ≤ 31 }
     {
         Plan {

@@ -4,7 +4,7 @@ use crate::longer::{LongSheet, Removal, sheet};
 use crate::{MAINTAIN_AT, RENOVATE_AT, REPLACE_AT, ShortSheet, document, paper, plain};
 
 // A removal of replace alone, with f 0.
-fn replacing(shorter: ShortSheet, amount: u32) -> LongSheet {
+fn replacing(shorter: ShortSheet, amount: u64) -> LongSheet {
     let third = Removal::of(amount, 0);
     sheet(shorter, Removal::NONE, Removal::NONE, third)
 }
@@ -27,13 +27,13 @@ pub fn free() -> ShortSheet {
 pub fn alone() -> LongSheet {
     let first = Removal::of(5, 0);
     let second = Removal::of(1, 10_000);
-    let third = Removal::of(2, -10_000);
+    let third = Removal::at(2, -10_000);
     sheet(free(), first, second, third)
 }
 
 // Only replace offered, T = 2, r 0, lives 1 to 2, investment 10, maintenance 1, an overhaul of 15 at age 1. One replacement costs 27, two cost
 // 22 and the removal of the first.
-pub fn overhauled(removal: u32) -> LongSheet {
+pub fn overhauled(removal: u64) -> LongSheet {
     let offered = plain().put16(5, 2).put32(7, 0).lives(REPLACE_AT, 1, 2);
     let yearly = offered.put32(REPLACE_AT + 4, 10).put32(REPLACE_AT + 12, 1);
     let aged = yearly.put8(REPLACE_AT + 40, 1).put16(REPLACE_AT + 41, 1);
