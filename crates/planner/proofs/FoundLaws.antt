@@ -27,7 +27,7 @@ use Rattle.planning.proofs.PlanningLaws.{SheetOutcome, planning_short, planning_
 
 module _ (p : PlanningSheet) (f : Front) (read : f ≡ front (planned p)) (there : f.total ≡ no_total → ⊥) (count : ℕ) (ends : List ℕ)
     (follows : Follows p f.j count ends) where
-  found_read : record { i = f.i; j = f.j; ends = take count ends } ≡ found p
+  pub found_read : record { i = f.i; j = f.j; ends = take count ends } ≡ found p
   found_read =
       let years = sym (planned_begins p f read there).goes in
       let i = ap (λ (ys : List ℕ). get_or ys 0 0) years in
@@ -35,7 +35,7 @@ module _ (p : PlanningSheet) (f : Front) (read : f ≡ front (planned p)) (there
       let rest = follows.1 ∙ ap (drop 2) years in
       λ k. record { i = i k; j = j k; ends = rest k }
 
-  found_count : length (found p).ends ≡ count
+  pub found_count : length (found p).ends ≡ count
   found_count = ap (λ (c : Chain). length c.ends) (sym found_read) ∙ ap length follows.1 ∙ sym follows.0
 
   there_planned : (planned p).total ≡ no_total → ⊥
