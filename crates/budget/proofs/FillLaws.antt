@@ -1,10 +1,10 @@
--- What the loops over a chain do to the words. An arc of a sheet (`arc_read`, `arc-room`); one replacement more and none, where `end` is the next
--- end that stands in the plan (`ends_first`, `falls_next`, `falls_none`); the chain in a plan (`chain_raised`); and all words, of units
--- and of cents (`units_written`, `cents_written`). Assumes nothing.
+-- What the loops over a chain do to the words. An arc of a sheet (`arc_unpaid`, `arc_read`, `word-below`, `arc-room`, `units-below`, `cents-below`); one replacement
+-- more and none, where `end` is the next end that stands in the plan (`ends_first`, `falls_next`, `falls_none`); the chain in a plan
+-- (`chain_raised`); and all words, of units and of cents (`units_written`, `cents_written`). Assumes nothing.
 use Prim.Native.Nat.{ℕ, suc, ◌+◌, ◌-◌, ◌*◌, ◌≤◌, ◌<◌}
 use mathlib.Core.Path.{◌≡◌, refl, ap, ◌∙◌}
 use mathlib.Core.List.{List, ◌++◌}
-use mathlib.Core.Bool.{Bool}
+use mathlib.Core.Bool.{Bool, false}
 use native.Mathlib.Omega.{arith}
 use lib.ListN.{length, get_or}
 use lib.Seq.{sets}
@@ -12,13 +12,14 @@ use Rattle.base.specs.Lists.{sum_of, listed}
 use Rattle.base.specs.Numbers.{u16_at}
 use Rattle.base.proofs.ListsLaws.{sum_of-append, length-listed, get_or-listed}
 use Rattle.base.proofs.StoreLaws.{written_only}
+use Rattle.base.proofs.TestLaws.{by_test}
 use Rattle.sheet.specs.Sheet.{PlanningSheet, maintain, renovate, replace}
 use Rattle.sheet.specs.Parsed.{parsed}
 use Rattle.sheet.specs.declared.Sheet.{Sheet}
 use Rattle.sheet.proofs.ParsedLaws.{horizon_read}
 use Rattle.checking.specs.Fit.{Fit}
 use Rattle.steps.specs.Payment.{Payment, rounded}
-use Rattle.costing.specs.Arc.{pays_removal, kept_of, arc_of, paid, closing, payments}
+use Rattle.costing.specs.Arc.{pays_removal, kept_of, arc_of, paid, closes, closing, payments}
 use Rattle.costing.specs.Fit.{yearly, Small}
 use Rattle.costing.specs.declared.Kept.{Kept}
 use Rattle.costing.proofs.SizeLaws.{units_small, whole_most}
@@ -31,10 +32,21 @@ use Rattle.spreading.specs.Fallen.{falling, fallen}
 use Rattle.spreading.specs.Raised.{up_to, in_money, Raised}
 use Rattle.spreading.specs.Asks.{Below, Room, MoneyFits}
 use Rattle.spreading.specs.declared.Money.{Money}
-use Rattle.spreading.proofs.RaisedLaws.{below_raised, fallen_behind, fallen-up_to, fallen_past}
-use Rattle.spreading.proofs.SizeLaws.{cents_small, room_after}
+use Rattle.spreading.proofs.RaisedLaws.{raised_both, raised-le, paid_none, closing_unraised, fallen_behind, fallen-up_to, fallen_past}
+use Rattle.spreading.proofs.SizeLaws.{cents_small}
 use Rattle.budget.specs.Budget.{payments_of, units_in, units_of, cents_in, last_in_cents, cents_of}
 use Rattle.budget.proofs.AddsLaws.{chain_by}
+
+-- an arc of length 0 adds nothing
+pub arc_unpaid :
+    (φ : Payment → ℕ) (p : PlanningSheet) (option start end : ℕ) → start ≡ end → (l : List ℕ) → Raised φ l l (payments (arc_of p option start end))
+unfolding payments arc_of
+arc_unpaid φ p option start end same l =
+    let a = (arc_of p option start end).kept in
+    let r = pays_removal option in
+    let none : end - start ≡ 0 = omega arith in
+    let unclosed : closes a r (end - start) p.horizon ≡ false = rw none (by_test r (λ t. rw t refl) (λ t. rw t refl)) in
+    raised_both φ l l l _ _ (paid_none φ l a none) (closing_unraised φ l a r (end - start) p.horizon unclosed)
 
 -- an arc of a sheet, of the option that is kept
 module _ (s : Sheet) (option start end : ℕ) (known : option ≤ 2) (k : Kept) (made : k ≡ kept_of s option start)
@@ -54,34 +66,38 @@ module _ (s : Sheet) (option start end : ℕ) (known : option ≤ 2) (k : Kept) 
         let T = horizon_read s p read in
         h y ∙ (λ i. get_or old y 0 + fallen φ y (paid_by (kept i) (pays i) (T i)))
 
-    -- a year adds at most `yearly` to a word
-    pub arc-room :
-        Fit s → start ≤ end → end ≤ s.horizon → Small φ k (end - start) → (counts : ℕ → Bool) → Room counts old s.horizon (start * yearly)
-        → length new ≡ length old → Room counts new s.horizon (end * yearly)
-    arc-room fit forward inside small counts room same =
+  -- a year adds at most `yearly` to a word, of any figure that is small
+  module _ (fit : Fit s) (forward : start ≤ end) (inside : end ≤ s.horizon) where
+    word-below :
+        (φ : Payment → ℕ) → Small φ k (end - start) → Raised φ old new added → (y : ℕ) → get_or old y 0 ≤ start * yearly
+        → get_or new y 0 ≤ end * yearly
+    word-below φ small h y low =
         let fits = kept_of_fits s fit option start known (omega arith) in
         let most : sum_of φ added ≤ (end - start) * yearly =
         rw (sum_of-append φ (paid k (end - start)) _) (whole_most φ k (rw made fits) removed (end - start) s.horizon small) in
-        room_after φ counts s.horizon (start * yearly) ((end - start) * yearly) (end * yearly) old new added room same h most (omega arith)
+        omega (arith, raised-le φ old new added y h, most)
 
-  -- so it does in either list, up to a last year
-  module _ (fit : Fit s) (forward : start ≤ end) (inside : end ≤ s.horizon) (last : ℕ) (room : Below last (start * yearly) old) where
-    figure-below : (φ : Payment → ℕ) → Small φ (kept_of s option start) (end - start) → Raised φ old new added → Below last (end * yearly) new
-    figure-below φ small h y early =
-        let fits = kept_of_fits s fit option start known (omega arith) in
-        let most : sum_of φ added ≤ (end - start) * yearly =
-        rw (made, sum_of-append φ (paid (kept_of s option start) (end - start)) _)
-        (whole_most φ (kept_of s option start) fits removed (end - start) s.horizon small) in
-        omega (arith, below_raised φ last (start * yearly) ((end - start) * yearly) old new added room h most y early)
+    -- so it does in the years that a list counts
+    pub arc-room :
+        (φ : Payment → ℕ) → Small φ k (end - start) → Raised φ old new added → (counts : ℕ → Bool) → Room counts old s.horizon (start * yearly)
+        → length new ≡ length old → Room counts new s.horizon (end * yearly)
+    arc-room φ small h counts room same =
+        record {
+          long = λ y early t. omega (arith, room.long y early t);
+          low = λ y early t. word-below φ small h y (room.low y early t);
+        }
 
-    pub units-below : Raised (rounded k.discount) old new added → Below last (end * yearly) new
-    units-below h =
-        let fits = kept_of_fits s fit option start known (omega arith) in
-        figure-below (rounded k.discount) (rw made (units_small (kept_of s option start) fits (end - start) (omega (arith, fit.horizon_high)))) h
+    -- and in either list, up to a last year
+    module _ (last : ℕ) (room : Below last (start * yearly) old) where
+      pub units-below : Raised (rounded k.discount) old new added → Below last (end * yearly) new
+      units-below h y early =
+          let fits = kept_of_fits s fit option start known (omega arith) in
+          word-below (rounded k.discount) (units_small k (rw made fits) (end - start) (omega (arith, fit.horizon_high))) h y (room y early)
 
-    pub cents-below : (m : Money) → MoneyFits m → Raised (in_money m) old new added → Below last (end * yearly) new
-    cents-below m counts h =
-        figure-below (in_money m) (cents_small m counts (kept_of s option start) (kept_of_fits s fit option start known (omega arith)) (end - start)) h
+      pub cents-below : (m : Money) → MoneyFits m → Raised (in_money m) old new added → Below last (end * yearly) new
+      cents-below m counts h y early =
+          let fits = kept_of_fits s fit option start known (omega arith) in
+          word-below (in_money m) (cents_small m counts k (rw made fits) (end - start)) h y (room y early)
 
 -- all ends of a plan
 pub ends_first : (plan : List ℕ) (count : ℕ) → ends_left plan count 0 ≡ ends_at plan 19 count

@@ -44,7 +44,11 @@ fn add_activity<L: Ledger>(
     ensures paid { (p : PlanningSheet) → sheet.now ≡ parsed p → Raised (L.figure ledger) words.old words.new (payments (arc_of p (place activity) start end)) }
     ensures room { Room (L.counts ledger) words.new sheet.now.horizon (end * yearly) }
 {
-    let kept = costing::kept_of(*sheet, activity, start);
+    // An activity of length 0 pays nothing.
+    if start == end {
+        return;
+    }
+    let kept = costing::kept_of(sheet, activity, start);
     let removed = costing::pays_removal(u64::from(activity));
     spreading::add_arc(words, kept, ledger, removed, end - start, sheet.horizon);
 }

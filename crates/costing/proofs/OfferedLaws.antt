@@ -1,13 +1,20 @@
 -- Laws of `offered`: the tests and the facts agree (`placed-iff`, `offered-iff`); of an arc that is well placed the length decides
--- (`offered_in`); and the test as the code reads it (`offered_read`, `offered_on`,
--- `offered_above`). Assumes nothing.
+-- (`offered_in`); and the test as the code reads it (`offered_read`), of an option by its number or else of replace (`named_known`). Assumes
+-- nothing.
 use Prim.Native.Nat.{ℕ, ◌-◌, ◌<◌, ◌≤◌, min}
 use mathlib.Core.Path.{◌≡◌}
 use mathlib.Core.Bool.{true, false, ◌&&◌}
 use mathlib.Core.Logic.{◌↔◌, ◌⊎◌, inl, inr, ⊎_elim}
 use native.Mathlib.Omega.{arith}
 use lib.Dec.{leb}
-use borrow.Author.Tests.{leb-true, leb-false, lt-leb}
+use borrow.Author.Tests.{leb-true, leb-false}
+use Rattle.std.specs.Result.{result_unwrap_or}
+use Rattle.std.specs.Prelude.{Result, Ok, Err}
+use Rattle.base.specs.declared.Activity.{Activity}
+use Rattle.base.specs.declared.Activity.TheVariants.{Replace}
+use Rattle.base.specs.declared.Refusal.{Refusal}
+use Rattle.base.specs.Outcome.{place, Names}
+use Rattle.base.proofs.OutcomeLaws.{place_lt}
 use Rattle.base.proofs.TestLaws.{by_test, leb-iff, eqb-iff, both_iff, either_iff}
 use Rattle.sheet.specs.Sheet.{PlanningSheet}
 use Rattle.sheet.specs.Parsed.{terms_of}
@@ -27,6 +34,13 @@ length-iff :
 length-iff shortest longest option n =
     either_iff (both_iff (both_iff (leb-iff 1 n) (leb-iff shortest n)) (leb-iff n longest))
     (both_iff (eqb-iff n 0) (leb-iff option 1))
+
+-- the place of the activity whose record is read
+pub named_known :
+    (option : ℕ) (named : Result Activity Refusal) {activity : Activity} → Names option named → activity ≡ result_unwrap_or named Replace
+    → place activity ≡ min option 2
+named_known option (Ok a) names read = let l = place_lt a in rw read (omega (arith, names))
+named_known option (Err x) names read = rw read (omega (arith, names.1))
 
 module _ (p : PlanningSheet) (option start end : ℕ) where
   -- of an arc that is well placed the length decides
@@ -53,17 +67,6 @@ module _ (p : PlanningSheet) (option start end : ℕ) where
       → placed T option start end && length_offered t.shortest t.longest option (end - start) ≡ offered p option start end
   unfolding terms_of
   offered_read k e horizon terms = rw (horizon, terms) (offered_known k e)
-
-  -- of the option's own terms, and an option above 2 is never offered
-  pub offered_on :
-      {T : ℕ} {t : Terms} → T ≡ p.horizon → t ≡ terms_of (p.option option)
-      → placed T option start end && length_offered t.shortest t.longest option (end - start) ≡ offered p option start end
-  unfolding offered terms_of
-  offered_on horizon terms = rw (horizon, terms)
-
-  pub offered_above : 2 < option → offered p option start end ≡ false
-  unfolding offered
-  offered_above high = rw (lt-leb option 2 high)
 
   from_zero : (option ≡ 0 → start ≡ 0) → (1 ≤ option) ⊎ (start ≡ 0)
   from_zero h =

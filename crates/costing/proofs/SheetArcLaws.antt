@@ -1,9 +1,9 @@
 -- An arc of a sheet: since when its motors are in service (`since_kept`, `since_new`, `since_le`), what the code holds of it (`replace-from`,
--- `kept_made`, `kept_read`, `cost_whole`), which steps its flows take (`electricity_kept`, `electricity_new`, `maintenance_new`), and what a
+-- `kept_made`, `kept_named`, `kept_read`, `cost_whole`), which steps its flows take (`electricity_kept`, `electricity_new`, `maintenance_new`), and what a
 -- sheet that passes the checks gives of it: room for its steps (`kept_of_fits`, `kept_fits`), what the laws of the error ask (`arc_fits`), and how
 -- large its cost can be (`kept_of-room`, `cost-le`). And an arc of a sheet of version 1 pays what it paid before there were removals, by any figure of
 -- its payments (`version_one`), in units too (`version_one_costs`). Assumes nothing.
-use Prim.Native.Nat.{ℕ, ◌+◌, ◌-◌, ◌*◌, ◌≤◌}
+use Prim.Native.Nat.{ℕ, ◌+◌, ◌-◌, ◌*◌, ◌≤◌, min}
 use mathlib.Core.Path.{◌≡◌, refl, ap, sym, subst, ◌∙◌}
 use mathlib.Core.Bool.{Bool, true, false}
 use mathlib.Core.List.{List}
@@ -71,6 +71,14 @@ module _ (p : PlanningSheet) (option start end : ℕ) where
       → kept_on terms discount since start ≡ (arc_of p option start end).kept
   unfolding arc_of
   kept_made t d s = λ i. kept_on (t i) (d i) (s i) start
+
+  -- of the option whose record was read, if it is known
+  pub kept_named :
+      {k discount since : ℕ} {terms : Terms} → k ≡ min option 2 → option ≤ 2 → terms ≡ terms_of (p.option k) → discount ≡ 1_000_000 + p.rate
+      → since ≡ since_of k start → kept_on terms discount since start ≡ (arc_of p option start end).kept
+  kept_named {k} named known t d s =
+      let same : k ≡ option = omega arith in
+      kept_made (t ∙ ap (λ (i : ℕ). terms_of (p.option i)) same) d (s ∙ ap (λ (i : ℕ). since_of i start) same)
 
   pub kept_read : (s : Sheet) → s ≡ parsed p → option ≤ 2 → kept_of s option start ≡ (arc_of p option start end).kept
   kept_read s read known = kept_made (terms_read s p read option no_terms (omega arith)) (discount_read s p read) refl

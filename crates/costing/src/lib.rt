@@ -81,8 +81,8 @@ fn kept_on(terms: Terms, discount: u64, since: u64, start: u64) -> Kept
 
 // An activity of a parsed sheet, kept from a year on.
 #[tactic(auto, using(base::proofs::OutcomeLaws::place_lt))]
-pub fn kept_of(sheet: Sheet, activity: Activity, start: u64) -> Kept
-    ensures { result ≡ kept_of sheet (place activity) start }
+pub fn kept_of(sheet: &Sheet, activity: Activity, start: u64) -> Kept
+    ensures { result ≡ kept_of sheet.now (place activity) start }
 {
     let terms = sheet.options[activity.place()];
     kept_on(terms, sheet.discount, since_of(activity, start), start)
@@ -104,7 +104,7 @@ pub fn arc_cost(sheet: Sheet, activity: Activity, start: u64, end: u64) -> Units
     ensures units { (p : PlanningSheet) → sheet ≡ parsed p → result.0 ≡ cost (arc_of p (place activity) start end) }
     ensures room { result.0 ≤ (end - start) * yearly }
 {
-    let kept = kept_of(sheet, activity, start);
+    let kept = kept_of(&sheet, activity, start);
     kept.cost(
         Divisor::of(sheet.discount),
         pays_removal(u64::from(activity)),
@@ -120,7 +120,8 @@ pub fn cost(sheet: &[u8], option: u64, start: u64, end: u64) -> Result<u64, Refu
     ensures near { IfOk result (WithinAllowance (arc_of (sheet_of sheet.now) option start end)) }
 {
     checking::check(sheet)?;
-    let activity = Activity::try_from(option)?;
+    // Of an option that is not known the record of replace is read; `offered_by` then refuses by the place.
+    let activity = Activity::try_from(option).unwrap_or(Activity::Replace);
     let terms = sheet::terms_of(sheet, activity);
     let horizon = sheet::horizon_of(sheet);
     if !offer::offered_by(horizon, terms.shortest, terms.longest, option, start, end) {

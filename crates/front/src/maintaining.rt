@@ -26,7 +26,7 @@ pub fn best_maintain(totals: &[u64], sheet: Sheet, discount: Divisor) -> Best
 {
     let mut streams = [0u64; streams::PLACES];
     let ages = lending::lend(&mut streams, sheet, discount, Activity::Maintain);
-    let kept = costing::kept_of(sheet, Activity::Maintain, 0);
+    let kept = costing::kept_of(&sheet, Activity::Maintain, 0);
     let lent = Lent {
         sheet,
         discount,

@@ -46,7 +46,7 @@ fn fill(totals: &mut [u64], ends: &mut [u64], words: &[u64], ahead: &[u64], lent
         if 0 < i && i < shortest {
             continue;
         }
-        let kept = costing::kept_of(lent.sheet, Activity::Renovate, i);
+        let kept = costing::kept_of(&lent.sheet, Activity::Renovate, i);
         let behind = words[i as usize];
         let best = keeping::best_from(behind, ahead, lent, kept);
         totals[i as usize] = best.total;

@@ -51,7 +51,7 @@ impl Lent<'_> {
         ensures firsts { YearWritten first_end self.now.sheet year firsts.old firsts.new }
         ensures ahead { AheadHeld replace self.now.sheet year ahead.new }
     {
-        let kept = costing::kept_of(self.sheet, Activity::Replace, year);
+        let kept = costing::kept_of(&self.sheet, Activity::Replace, year);
         let chosen = weighing::best_end(
             ahead,
             self.streams,
@@ -95,7 +95,7 @@ impl Lent<'_> {
         let horizon = self.sheet.horizon;
         let start = reached - 1;
         let from = reached - 2;
-        let kept = costing::kept_of(self.sheet, Activity::Replace, from);
+        let kept = costing::kept_of(&self.sheet, Activity::Replace, from);
         let next = kept.starting(start);
         let years = kept.terms.longest.min(horizon - from);
         let mut earlier = [0u64; 120];

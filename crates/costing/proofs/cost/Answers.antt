@@ -10,15 +10,13 @@ use Rattle.base.specs.declared.Refusal.TheVariants.{NotOffered}
 use Rattle.base.specs.Outcome.{answer_of, check_answer}
 use Rattle.base.proofs.OutcomeLaws.{refused_number, passed_on}
 use Rattle.sheet.specs.Sheet.{sheet_of}
-use Rattle.sheet.specs.Parsed.{terms_of}
 use Rattle.checking.specs.Passes.{Passes}
 use Rattle.checking.proofs.PassesLaws.{header_sized, checked-iff}
 use Rattle.checking.proofs.FitLaws.{fit}
-use Rattle.costing.specs.Arc.{since_of}
 use Rattle.costing.specs.Fit.{KeptFits}
 use Rattle.costing.specs.declared.Kept.{Kept}
-use Rattle.costing.proofs.SheetArcLaws.{kept_made, cost_whole, kept_fits}
-use Rattle.costing.proofs.OfferedLaws.{offered_on, offered_above, offered-iff}
+use Rattle.costing.proofs.SheetArcLaws.{kept_named, cost_whole, kept_fits}
+use Rattle.costing.proofs.OfferedLaws.{named_known, offered_read, offered-iff}
 use Rattle.costing.proofs.CostLaws.{cost-refused, cost_unoffered, cost-offered, cost_outcome}
 use Rattle.costing.proofs.cost.Goals as goal
 
@@ -30,18 +28,6 @@ returns-in_err-check c =
     let q : answer_of r ≡ check_answer c.check.result =
     passed_on (λ (t : ℕ). t) (λ d. 0) r c.check.result c.in_err-check.field-0.0 p.0 c.in_err-check.was p.1 p.2 in
     let t = cost-refused a.sheet.now a.option a.start a.end (answer_of r) (q ∙ c.check.ensures.answer) (refused_number (λ (t : ℕ). t) r p.0 p.1) in
-    let held = cost_outcome a.sheet.now a.option a.start a.end r t in
-    record { answer = held.0; accepted = held.1.0; near = held.1.1 }
-
-pub returns-in_err-activity : goal.returns-in_err-activity
-returns-in_err-activity c =
-    let a = c.args in
-    let r = c.from_residual-in_err-activity.result in
-    let p = err_from_is_err_and r c.from_residual-in_err-activity.ensures.1 in
-    let out = c.in_err-activity.ensures in
-    let q : answer_of r ≡ refused 13 3 = rw (p.1, p.2, out.0) refl in
-    let passes : Passes a.sheet.now = c.check.ensures.accepted.0 (rw c.in_ok-check.was refl) in
-    let t = q ∙ cost_unoffered a.sheet.now a.option a.start a.end ((checked-iff _).1 passes) (offered_above (sheet_of a.sheet.now) a.option a.start a.end out.1) in
     let held = cost_outcome a.sheet.now a.option a.start a.end r t in
     record { answer = held.0; accepted = held.1.0; near = held.1.1 }
 
@@ -58,8 +44,8 @@ pub returns-then-not-offered_by : goal.returns-then-not-offered_by
 returns-then-not-offered_by c =
     let a = c.args in
     let p = sheet_of a.sheet.now in
-    let terms = c.terms_of-terms.ensures ∙ ap (λ (k : ℕ). terms_of (p.option k)) c.in_ok-activity.ensures in
-    let tested = c.offered_by.ensures ∙ offered_on p a.option a.start a.end c.horizon_of-horizon.ensures terms in
+    let known = named_known a.option c.try_from.result c.try_from.ensures c.unwrap_or-activity.ensures in
+    let tested = c.offered_by.ensures ∙ offered_read p a.option a.start a.end _ known c.horizon_of-horizon.ensures c.terms_of-terms.ensures in
     let passes : Passes a.sheet.now = c.check.ensures.accepted.0 (rw c.in_ok-check.was refl) in
     let t = cost_unoffered a.sheet.now a.option a.start a.end ((checked-iff _).1 passes) (sym tested ∙ c.if-not-offered_by.true) in
     let held = cost_outcome a.sheet.now a.option a.start a.end (Err NotOffered) t in
@@ -70,12 +56,11 @@ pub cost-units-requires : goal.cost-units-requires
 cost-units-requires c =
     let a = c.args in
     let p = sheet_of a.sheet.now in
-    let terms = c.terms_of-terms.ensures ∙ ap (λ (k : ℕ). terms_of (p.option k)) c.in_ok-activity.ensures in
-    let tested = c.offered_by.ensures ∙ offered_on p a.option a.start a.end c.horizon_of-horizon.ensures terms in
+    let known = named_known a.option c.try_from.result c.try_from.ensures c.unwrap_or-activity.ensures in
+    let tested = c.offered_by.ensures ∙ offered_read p a.option a.start a.end _ known c.horizon_of-horizon.ensures c.terms_of-terms.ensures in
     let o = (offered-iff p a.option a.start a.end).0 (sym tested ∙ c.if-not-offered_by.false) in
     let passes : Passes a.sheet.now = c.check.ensures.accepted.0 (rw c.in_ok-check.was refl) in
-    let since = c.since_of.ensures ∙ ap (λ (k : ℕ). since_of k a.start) c.in_ok-activity.ensures in
-    let made = c.kept_on-kept.ensures ∙ kept_made p a.option a.start a.end terms c.discount_of-discount.ensures since in
+    let made = c.kept_on-kept.ensures ∙ kept_named p a.option a.start a.end known o.known c.terms_of-terms.ensures c.discount_of-discount.ensures c.since_of.ensures in
     let same : c.of.result.by ≡ c.kept_on-kept.result.discount = c.of.ensures.number ∙ sym (ap (λ (k : Kept). k.discount) c.kept_on-kept.ensures) in (
       record {
         fits = subst KeptFits (sym made) (kept_fits p a.option a.start a.end (fit _ passes) o.known (omega (arith, o.forward, o.inside)));
@@ -88,10 +73,10 @@ pub returns : goal.returns
 returns c =
     let a = c.args in
     let p = sheet_of a.sheet.now in
-    let terms = c.terms_of-terms.ensures ∙ ap (λ (k : ℕ). terms_of (p.option k)) c.in_ok-activity.ensures in
-    let tested = c.offered_by.ensures ∙ offered_on p a.option a.start a.end c.horizon_of-horizon.ensures terms in
-    let since = c.since_of.ensures ∙ ap (λ (k : ℕ). since_of k a.start) c.in_ok-activity.ensures in
-    let made = c.kept_on-kept.ensures ∙ kept_made p a.option a.start a.end terms c.discount_of-discount.ensures since in
+    let known = named_known a.option c.try_from.result c.try_from.ensures c.unwrap_or-activity.ensures in
+    let tested = c.offered_by.ensures ∙ offered_read p a.option a.start a.end _ known c.horizon_of-horizon.ensures c.terms_of-terms.ensures in
+    let o = (offered-iff p a.option a.start a.end).0 (sym tested ∙ c.if-not-offered_by.false) in
+    let made = c.kept_on-kept.ensures ∙ kept_named p a.option a.start a.end known o.known c.terms_of-terms.ensures c.discount_of-discount.ensures c.since_of.ensures in
     let passes : Passes a.sheet.now = c.check.ensures.accepted.0 (rw c.in_ok-check.was refl) in
     let units = c.cost-units.ensures ∙ cost_whole p a.option a.start a.end made c.pays_removal.ensures c.horizon_of-horizon.ensures in
     let t = ap accepted units ∙ cost-offered a.sheet.now a.option a.start a.end ((checked-iff _).1 passes) (sym tested ∙ c.if-not-offered_by.false) in

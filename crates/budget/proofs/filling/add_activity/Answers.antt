@@ -8,8 +8,18 @@ use Rattle.costing.specs.Fit.{KeptFits, yearly}
 use Rattle.costing.specs.declared.Kept.{Kept}
 use Rattle.costing.proofs.SheetArcLaws.{kept_of_fits}
 use Rattle.spreading.proofs.SizeLaws.{ledger_small, room_within}
-use Rattle.budget.proofs.FillLaws.{arc_read, arc-room}
+use Rattle.budget.proofs.FillLaws.{arc_unpaid, arc_read, arc-room}
 use Rattle.budget.proofs.filling.add_activity.Goals as goal
+
+-- nothing is paid, and nothing added
+pub returns-then-start-end : goal.returns-then-start-end
+returns-then-start-end g c =
+    let a = c.args in
+    let same = c.if-start-end.true in
+    record {
+      paid = λ p read. arc_unpaid (g.L.Ledger.figure a.ledger) p (place a.activity) a.start a.end same a.words.now;
+      room = room_within (g.L.Ledger.counts a.ledger) a.sheet.now.horizon (a.start * yearly) _ _ a.words.now c.requires.list_asks.room (omega arith) (rw same (omega arith));
+    }
 
 pub add_arc-requires : goal.add_arc-requires
 add_arc-requires g c =
@@ -49,4 +59,4 @@ returns-clause-room g c =
     let suits = subst (g.L.Ledger.ready a.ledger) (sym (ap (λ (k : Kept). k.discount) made)) h.suits in
     let small = ledger_small (g.L.Ledger.ready a.ledger) kept fits suits φ (g.met.L.Ledger.small a.ledger) (a.end - a.start) (omega (arith, h.fit.horizon_high)) in
     arc-room a.sheet.now (place a.activity) a.start a.end known kept made c.pays_removal-removed.result (rw c.from.ensures at c.pays_removal-removed.ensures) a.words.now c.add_arc.new.words
-    φ c.add_arc.ensures h.fit o.0 o.1 small (g.L.Ledger.counts a.ledger) h.room c.add_arc.auto.words
+    h.fit o.0 o.1 φ small c.add_arc.ensures (g.L.Ledger.counts a.ledger) h.room c.add_arc.auto.words
