@@ -11,13 +11,13 @@ use crate::Ledger;
 use costing::Kept;
 use sheet::Flow;
 
-// Adds to the word of a year.
+// Adds an amount of a ledger to the word of a year. It takes the amounts of that ledger alone: no other number gets into its words.
 #[tactic(auto, using(crate::proofs::RaisedLaws::set_raised))]
-fn add(words: &mut [u64], year: u64, value: u64)
-    requires { (year < length words.old) × (get_or words.old year 0 + value < 2 ^ 64) }
-    ensures { RaisedIn words.old words.new year value }
+fn add<L: Ledger>(words: &mut [u64], year: u64, value: L::Amount)
+    requires { (year < length words.old) × (get_or words.old year 0 + L.number value < 2 ^ 64) }
+    ensures { RaisedIn words.old words.new year (L.number value) }
 {
-    words[year as usize] += value;
+    words[year as usize] += L::number(value);
 }
 
 // Adds an amount paid once, unless its year is not counted.
@@ -27,7 +27,7 @@ fn add_once<L: Ledger>(words: &mut [u64], ledger: L, amount: u64, grow: u64, yea
 {
     if ledger.counts(year) {
         let value = ledger.paid_once(amount, grow, year);
-        add(words, year, L::number(value));
+        add::<L>(words, year, value);
     }
 }
 
@@ -77,7 +77,7 @@ fn add_flow<L: Ledger>(words: &mut [u64], ledger: L, flow: Flow, since: u64, fro
             return;
         }
         amount = ledger.in_service(flow, amount);
-        add(words, from + n + 1, L::number(amount));
+        add::<L>(words, from + n + 1, amount);
     }
 }
 

@@ -61,7 +61,7 @@ add-requires g c =
     λ k few. g.met.L.Ledger.small a.ledger _ (year_payable (g.L.Ledger.ready a.ledger) a.flow a.since a.from k c.requires.0) (year-served a.flow a.since a.from k (omega arith)) in
     let so_far = flow_most φ a.flow a.since a.from l.n (λ k m. small (suc k) (omega arith)) in
     let next = c.in_service-amount.ensures a.since (a.from + l.n) (omega (arith, c.requires.1)) counted l.invariant.stands in
-    let is = c.number.ensures ∙ next ∙ ap φ (year_behind a.flow a.since a.from l.n c.requires.1) in (
+    let is = next ∙ ap φ (year_behind a.flow a.since a.from l.n c.requires.1) in (
       omega (arith, room.long year (omega arith) counted, l.invariant.same_length),
       omega (arith, room.low year (omega arith) counted, raised-le φ a.words.now l.words _ year l.invariant.raised, so_far, is, small (suc l.n) (omega (arith, c.loop-n-test.true))),
     )
@@ -79,5 +79,5 @@ loop-n-preserved g c =
       same_length = c.add.auto.words ∙ l.invariant.same_length;
       raised =
           flow_next φ a.words.now a.flow a.since a.from l.n l.words c.add.new.words c.requires.1 l.invariant.raised refl
-          (c.number.ensures ∙ next ∙ ap φ (year_behind a.flow a.since a.from l.n c.requires.1)) c.add.ensures;
+          (next ∙ ap φ (year_behind a.flow a.since a.from l.n c.requires.1)) c.add.ensures;
     }

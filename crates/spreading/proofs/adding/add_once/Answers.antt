@@ -14,14 +14,14 @@ add-requires g c =
     let counted = sym c.counts.ensures ∙ c.if-counts.true in
     let small = g.met.L.Ledger.small a.ledger q c.requires.0 (omega arith) in (
       room.long a.year (omega arith) counted,
-      omega (arith, room.low a.year (omega arith) counted, c.number.ensures, c.paid_once-value.ensures, small),
+      omega (arith, room.low a.year (omega arith) counted, c.paid_once-value.ensures, small),
     )
 
 pub returns-then-counts : goal.returns-then-counts
 returns-then-counts g c =
     let a = c.args in
     let q = once a.amount a.grow a.year in
-    raised_one (g.L.Ledger.figure a.ledger) a.words.now c.add.new.words q (sym (once-year a.amount a.grow a.year)) (c.number.ensures ∙ c.paid_once-value.ensures) c.add.ensures
+    raised_one (g.L.Ledger.figure a.ledger) a.words.now c.add.new.words q (sym (once-year a.amount a.grow a.year)) c.paid_once-value.ensures c.add.ensures
 
 pub returns-else-counts : goal.returns-else-counts
 returns-else-counts g c =
