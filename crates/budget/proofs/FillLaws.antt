@@ -1,10 +1,10 @@
--- What the loops over a chain do to the words. An arc of a sheet (`arc_unpaid`, `arc_read`, `word-below`, `arc-room`, `units-below`, `cents-below`); one replacement
--- more and none, where `end` is the next end that stands in the plan (`ends_first`, `falls_next`, `falls_none`); the chain in a plan
+-- What the loops over a chain do to the words. An arc of a sheet (`arc_unpaid`, `arc_read`, `word-below`, `arc-room`, `units-below`, `cents-below`); one
+-- replacement more and none, where `end` is the next end that stands in the plan (`ends_first`, `falls_next`, `falls_none`); the chain in a plan
 -- (`chain_raised`); and all words, of units and of cents (`units_written`, `cents_written`). Assumes nothing.
 use Prim.Native.Nat.{ℕ, suc, ◌+◌, ◌-◌, ◌*◌, ◌≤◌, ◌<◌}
 use mathlib.Core.Path.{◌≡◌, refl, ap, ◌∙◌}
 use mathlib.Core.List.{List, ◌++◌}
-use mathlib.Core.Bool.{Bool, false}
+use mathlib.Core.Bool.{Bool, false, and-false}
 use native.Mathlib.Omega.{arith}
 use lib.ListN.{length, get_or}
 use lib.Seq.{sets}
@@ -12,7 +12,6 @@ use Rattle.base.specs.Lists.{sum_of, listed}
 use Rattle.base.specs.Numbers.{u16_at}
 use Rattle.base.proofs.ListsLaws.{sum_of-append, length-listed, get_or-listed}
 use Rattle.base.proofs.StoreLaws.{written_only}
-use Rattle.base.proofs.TestLaws.{by_test}
 use Rattle.sheet.specs.Sheet.{PlanningSheet, maintain, renovate, replace}
 use Rattle.sheet.specs.Parsed.{parsed}
 use Rattle.sheet.specs.declared.Sheet.{Sheet}
@@ -45,7 +44,7 @@ arc_unpaid φ p option start end same l =
     let a = (arc_of p option start end).kept in
     let r = pays_removal option in
     let none : end - start ≡ 0 = omega arith in
-    let unclosed : closes a r (end - start) p.horizon ≡ false = rw none (by_test r (λ t. rw t refl) (λ t. rw t refl)) in
+    let unclosed : closes a r (end - start) p.horizon ≡ false = rw (none, and-false r) refl in
     raised_both φ l l l _ _ (paid_none φ l a none) (closing_unraised φ l a r (end - start) p.horizon unclosed)
 
 -- an arc of a sheet, of the option that is kept
